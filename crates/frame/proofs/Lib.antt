@@ -1,0 +1,3 @@
+pub mod Layouts
+pub mod Round
+pub mod Slots
