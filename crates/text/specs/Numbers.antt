@@ -33,7 +33,11 @@ numbersOf zero (w ∷ ws) = None
 numbersOf (suc n) [] = None
 numbersOf (suc n) (w ∷ ws) = linked (numberOf w) (numbersOf n ws)
 
--- numbers in decimal, each after a space
+-- a number in decimal after a space
+abbrev pub spacedWord : ℕ → List ℕ
+spacedWord n = 32 ∷ decimal n
+
+-- numbers, each after a space
 abbrev pub spacedOf : List ℕ → List ℕ
 spacedOf [] = []
-spacedOf (n ∷ ns) = 32 ∷ (decimal n ++ spacedOf ns)
+spacedOf (n ∷ ns) = spacedWord n ++ spacedOf ns

@@ -1,10 +1,12 @@
 ghost use mathlib.Core.Path.{_≡_};
 ghost use Prim.Native.Nat.{_^_, _<_};
+ghost use lib.Dec.{eqb};
+ghost use lib.ListN.{length};
 ghost use Rattle.std.specs.Of.String.{string-bytes};
 ghost use Rattle.std.specs.Slices.{found};
 ghost use Rattle.std.specs.Vec.{made};
-ghost use Rattle.text.specs.Words.{words};
-ghost use Rattle.text.specs.Numbers.{numberOf, numbersOf, spacedOf};
+ghost use Rattle.text.specs.Words.{words, wordOf};
+ghost use Rattle.text.specs.Numbers.{numberOf, numbersOf, spacedWord, spacedOf};
 use crate::words::next_word;
 use std::alloc::AllocError;
 use std::alloc::Global;
@@ -30,6 +32,14 @@ pub fn number(word: &[u8]) -> Option<u64>
     Some(value)
 }
 
+// Whether the text has no word.
+fn is_blank(text: &[u8]) -> bool
+    ensures { λ r. ⌜ r ≡ eqb (length (wordOf (now (text .entry)))) 0 ⌝ }
+{
+    let (word, _) = next_word(text);
+    word.is_empty()
+}
+
 // The values of a text of exactly N words, each a number.
 pub fn numbers<const N: usize>(text: &[u8]) -> Option<[u64; N]>
     ensures { λ r. ⌜ r ≡ numbersOf N (words (now (text .entry))) ⌝ }
@@ -41,8 +51,13 @@ pub fn numbers<const N: usize>(text: &[u8]) -> Option<[u64; N]>
         *value = number(word)?;
         rest = after;
     }
-    let (word, _) = next_word(rest);
-    if word.is_empty() { Some(values) } else { None }
+    if is_blank(rest) { Some(values) } else { None }
+}
+
+fn spaced_word(heap: Global, number: u64) -> Result<String, AllocError>
+    ensures { λ r. ⌜ made r (λ s. string-bytes s ≡ spacedWord number) ⌝ }
+{
+    format!(heap, " {number}")
 }
 
 // The numbers, each after a space.
@@ -51,7 +66,7 @@ pub fn spaced(heap: Global, numbers: &[u64]) -> Result<String, AllocError>
 {
     let mut text = String::new(heap);
     for number in numbers {
-        let word = format!(heap, " {number}")?;
+        let word = spaced_word(heap, *number)?;
         text.push_str(word.as_str())?;
     }
     Ok(text)

@@ -6,8 +6,9 @@ use native.Mathlib.Omega.{arith}
 use lib.ListN.{length, take, length-replicate, length-set}
 use Rattle.std.specs.declared.option.Option.the-variants.{Some}
 use Rattle.std.proofs.shelf.Lists.{take-more-set, take-all}
-use Rattle.text.specs.Words.{words}
+use Rattle.text.specs.Words.{words, wordOf}
 use Rattle.text.specs.Numbers.{numbersOf, linked}
+use Rattle.text.proofs.Splits.{words-split}
 use Rattle.text.proofs.Values.{numbers-more, numbers-end, after, after-nil, after-push}
 use Rattle.text.proofs.decimal.numbers.Needs as need
 
@@ -34,16 +35,18 @@ loop-value-again g c =
       c .loop-value .inv .1 ∙ ap (after (take i xs)) turn ∙ after-push (take i xs) x left ∙ ap (λ ys. after ys left) (sym (take-more-set xs i x within)),
     )
 
-pub returns-then-is-empty : need.returns-then-is-empty
-returns-then-is-empty g c =
+pub returns-then-is-blank : need.returns-then-is-blank
+returns-then-is-blank g c =
     let i = c .loop-value .value-index in
     let xs = c .loop-value .value-items in
+    let rest = c .loop-value .rest .now in
     let past : length xs ≤ i = omega arith in
-    let end = numbers-end (g .N) i _ _ _ _ (omega arith) (c .next-word-2 .ensures .splits) (c .if-is-empty .ensures tt) in
+    let end = numbers-end (g .N) i (wordOf rest) _ _ _ (omega arith) (words-split rest) (c .if-is-blank .ensures tt) in
     sym (c .loop-value .inv .1 ∙ ap (after (take i xs)) end ∙ ap Some (append-nil (take i xs) ∙ take-all i xs past))
 
-pub returns-else-is-empty : need.returns-else-is-empty
-returns-else-is-empty g c =
+pub returns-else-is-blank : need.returns-else-is-blank
+returns-else-is-blank g c =
     let i = c .loop-value .value-index in
-    let end = numbers-end (g .N) i _ _ _ _ (omega arith) (c .next-word-2 .ensures .splits) (c .if-is-empty .ensures tt) in
+    let rest = c .loop-value .rest .now in
+    let end = numbers-end (g .N) i (wordOf rest) _ _ _ (omega arith) (words-split rest) (c .if-is-blank .ensures tt) in
     sym (c .loop-value .inv .1 ∙ ap (after (take i (c .loop-value .value-items))) end)

@@ -12,7 +12,7 @@ loop-number-again c =
     let ns = c .args .numbers .now in
     let i = c .loop-number .number-index in
     let pushed = c .in-Continue-push-str .ensures tt .bytes in
-    let word = c .as-str .ensures .value ∙ c .in-Continue-word .ensures tt .made in
+    let word = c .as-str .ensures .value ∙ c .in-Continue-word .ensures tt in
     pushed ∙ (λ j. c .loop-number .inv j ++ word j) ∙ sym (spaced-more (take i ns) _) ∙ ap spacedOf (sym (take-more ns i 0 (c .loop-number-test .taken)))
 
 pub returns : need.returns
