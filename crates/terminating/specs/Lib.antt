@@ -1,0 +1,5 @@
+pub mod Hearing
+pub mod Laws
+pub mod Making
+pub mod Office
+pub mod Steps
