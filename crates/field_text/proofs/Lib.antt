@@ -1,0 +1,2 @@
+pub mod FieldLaws
+mod Places

@@ -1,0 +1,2 @@
+mod Images
+mod Replies
