@@ -1,7 +1,7 @@
 #!/usr/bin/env python3
 """An independent implementation of the program `frames`, to compare it with.
 
-Written from docs/LINKS.md alone: lines on standard input, answers on standard output.
+It shares no code with it: lines on standard input, answers on standard output.
 """
 import re
 import sys
