@@ -5,7 +5,8 @@ usage: tools/port_names.py [--look]     at the top, once, after the kit's port.p
 
 Words of specs/ and proofs/ go from camelCase to snake_case: sameKey becomes
 same_key, bitsOf-within becomes bits_of-within. Functions of src/ have that
-spelling already, types and modules keep theirs, and strings are left alone.
+spelling already, types and modules keep theirs, and strings and bytes are
+left alone.
 --look writes nothing, and lists the new names that would fall together with
 a name that stands already.
 """
@@ -16,7 +17,7 @@ import sys
 
 CAMEL = re.compile(r"^[a-z][a-z0-9_']*[A-Z]")
 NAME = re.compile(r"[A-Za-z_\u25cc\u03b1-\u03c9][\w'\u25cc-]*")
-STRING = re.compile(r'b?"(?:[^"\\]|\\.)*"')
+STRING = re.compile(r"""b?"(?:[^"\\]|\\.)*"|\bb'(?:[^'\\]|\\.)'""")
 # a library's word of which lemmas are named, and ends of one letter
 WORDS = {"getD": "get_or", "likeL": "like_last", "wayL": "way_last"}
 # kept: a name of the library that a file brings in under its old spelling

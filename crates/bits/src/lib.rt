@@ -1,4 +1,6 @@
 // The bits of a PDU in bytes, the highest first, and what can be wrong with them.
+#![tactic(auto)]
+
 pub mod buffer;
 pub mod fault;
 pub mod reading;

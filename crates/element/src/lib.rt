@@ -1,4 +1,6 @@
 // The elements of PDUs: their widths, and the values that they take.
+#![tactic(auto)]
+
 pub mod clir_colr;
 pub mod coding;
 pub mod listed;

@@ -1,4 +1,6 @@
 // A field of a text: its name, an equals sign and its value.
+#![tactic(auto)]
+
 pub mod fault;
 pub mod fields;
 pub mod names;

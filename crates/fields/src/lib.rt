@@ -1,4 +1,6 @@
 // The values that both offices, the links and the codec share.
+#![tactic(auto)]
+
 pub mod key;
 pub mod making;
 pub mod marking;

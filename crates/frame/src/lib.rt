@@ -1,4 +1,6 @@
 // A message in fifteen bytes.
+#![tactic(auto)]
+
 ghost use Rattle.std.specs.Prelude.{◌≡◌, Ok};
 ghost use Rattle.frame.specs.Frames.{layout, octets, listed, unlisted, frame_of, read_of, Framed};
 ghost use Rattle.frame.specs.Layout.{packed, split, Within};

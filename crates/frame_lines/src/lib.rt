@@ -1,4 +1,6 @@
 // Lines of text that ask to read or to write a frame, and their answers.
+#![tactic(auto)]
+
 pub mod answering;
 pub mod lines;
 pub mod reading;

@@ -1,4 +1,6 @@
 // Reads and writes frames: answers each line of the input with one line.
+#![tactic(auto)]
+
 use frame_lines::answer;
 use line_input::next_line;
 use std::io;

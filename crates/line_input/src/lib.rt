@@ -1,4 +1,6 @@
 // Lines of any bytes from an input.
+#![tactic(auto)]
+
 ghost use Rattle.std.specs.Prelude.{◌≡◌, false, IfOk, vec_len};
 
 use std::io;

@@ -1,4 +1,6 @@
 // Links carry messages from one office to the other.
+#![tactic(auto)]
+
 ghost use Rattle.std.specs.Prelude.{◌≡◌, ℕ, ◌-◌, List, length, ◌==◌};
 ghost use Rattle.link.specs.declared.message.Message.{Message as Sent};
 ghost use Rattle.link.specs.Queue.{Bounded, send_answer, send_list, first_answer, take_list};

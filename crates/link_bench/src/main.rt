@@ -1,5 +1,7 @@
 // Times a million takes, each with a send after it, over each link of 4,096 places, with 8 and with
 // 4,096 messages waiting, and tells the ratio of the two.
+#![tactic(auto)]
+
 use fields::{Identifier, Identity, Key, Refusal};
 use frame::Trunk;
 use link::{Kind, Link, Message, NoCause, Shelf};

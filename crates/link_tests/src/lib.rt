@@ -1,4 +1,6 @@
 // Both links and the frame on examples.
+#![tactic(auto)]
+
 #[cfg(test)]
 mod tests {
     use fields::{CallAttributes, Identifier, Identity, Key, Priority, Refusal, Service};

@@ -1,4 +1,6 @@
 // The nineteen PDUs of the call-completion service: what they hold, and the bits that they are.
+#![tactic(auto)]
+
 pub mod lists;
 pub mod pdus;
 pub mod types;

@@ -1,4 +1,6 @@
 // Lines of text that hold a PDU, in bits or as text, and their answers.
+#![tactic(auto)]
+
 pub mod answering;
 pub mod lines;
 pub mod reading;

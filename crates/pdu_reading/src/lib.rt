@@ -1,4 +1,6 @@
 // Reading the nineteen PDUs.
+#![tactic(auto)]
+
 mod bodies;
 mod lists;
 mod parts;

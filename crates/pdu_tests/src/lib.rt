@@ -1,4 +1,6 @@
 // Worked examples of the codec: how long PDUs are, and one fault of each kind.
+#![tactic(auto)]
+
 #[cfg(test)]
 mod tests {
     use bits::{ElementName, Fault, Layer, Reason};

@@ -1,4 +1,6 @@
 // Writing the text of a PDU.
+#![tactic(auto)]
+
 pub mod lists;
 pub mod parts;
 pub mod pdus;

@@ -1,4 +1,6 @@
 // Writing the nineteen PDUs.
+#![tactic(auto)]
+
 mod bodies;
 mod lists;
 mod parts;

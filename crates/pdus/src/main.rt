@@ -1,4 +1,6 @@
 // Reads and writes PDUs: answers each line of the input with one line.
+#![tactic(auto)]
+
 use line_input::next_line;
 use pdu_lines::answer;
 use std::io;

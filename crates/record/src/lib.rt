@@ -1,4 +1,6 @@
 // Tables of records: one search and one count for every kind of record.
+#![tactic(auto)]
+
 ghost use Rattle.std.specs.Prelude.{◌≡◌, ℕ, ◌<◌, ◌≤◌, Bool, true, ◌&&◌, length, IfSome, vec_len, vec_capacity, ◌==◌, nat_le};
 ghost use Rattle.fields.specs.declared.values.Identity.{Identity as Party};
 ghost use Rattle.record.specs.Search.{find_index, first_of, put_first, drop_first, count_of};

@@ -1,4 +1,6 @@
 // The terminating office: its lines, and the monitors that wait for them.
+#![tactic(auto)]
+
 pub mod hearing;
 pub mod lines;
 pub mod making;

@@ -1,4 +1,6 @@
 // Runs of the terminating office over a shelf and over a trunk.
+#![tactic(auto)]
+
 #[cfg(test)]
 mod tests {
     use fields::{CallAttributes, Identifier, Identity, Key, Priority, Refusal, Service};

@@ -10,7 +10,7 @@ fn hex_digit(byte: u8) -> Option<u8>
 {
     match byte {
         b'0'..=b'9' => Some(byte - b'0'),
-        b'_a'..=b'_f' => Some(byte - b'_a' + 10),
+        b'A'..=b'F' => Some(byte - b'A' + 10),
         b'a'..=b'f' => Some(byte - b'a' + 10),
         _ => None,
     }

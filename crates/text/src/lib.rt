@@ -1,4 +1,6 @@
 // Reading and writing the lines of text that the consoles work on. A line is any bytes.
+#![tactic(auto)]
+
 pub mod decimal;
 pub mod hex;
 pub mod words;
