@@ -23,4 +23,4 @@ pub returns : goal.returns
 returns c =
     let m = c.args.at + c.args.width in
     let h : m ≤ c.args.bits = omega arith in
-    rw c.bytes-for.ensures (same c.args.bytes.now c.args.bits m h)
+    rw c.bytes_for.ensures (same c.args.bytes.now c.args.bits m h)

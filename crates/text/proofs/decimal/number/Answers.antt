@@ -6,7 +6,7 @@ use Rattle.text.proofs.decimal.number.Goals.{then-digit-lt48-via-then-digit-lt48
 
 pub returns-then-digit-lt48 : goal.returns-then-digit-lt48
 returns-then-digit-lt48 c =
-    let some : 0 < length c.args.word.now = omega (arith, eqb-false _ _ (sym c.if-is-empty.ensures)) in
+    let some : 0 < length c.args.word.now = omega (arith, eqb-false _ _ (sym c.if-is_empty.ensures)) in
     let d = get_or c.args.word.now c.loop-digit.digit-index 0 in
     let out : (d < 48) ⊎ (57 < d) = elim c.then-digit-lt48.branch [
       | then-digit-lt48-via-then-digit-lt48 w ↦ inl (omega arith)
@@ -33,7 +33,7 @@ loop-digit-preserved c =
 
 pub returns : goal.returns
 returns c =
-    let some : 0 < length c.args.word.now = omega (arith, eqb-false _ _ (sym c.if-is-empty.ensures)) in
+    let some : 0 < length c.args.word.now = omega (arith, eqb-false _ _ (sym c.if-is_empty.ensures)) in
     record {
       value = sym (sized c.args.word.now some (omega arith) ∙ c.loop-digit.invariant.0 ∙ value-end _ _ _ c.loop-digit-test.false);
       small = value_room _ _ 15 c.loop-digit.invariant.1 (omega arith);

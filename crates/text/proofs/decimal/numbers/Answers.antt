@@ -22,11 +22,11 @@ pub loop-value-preserved : goal.loop-value-preserved
 loop-value-preserved g c =
     let i = c.loop-value.value-index in
     let xs = c.loop-value.value-items in
-    let x = c.in-ok-value.field-0 in
+    let x = c.in_ok-value.field-0 in
     let within : i < length xs = omega arith in
-    let read = sym c.number.ensures.value ∙ c.in-ok-value.was in
-    let left = numbers_of (g.row.N - (i + 1)) (words c.next-word.result.1.now) in
-    let turn = numbers_more _ _ _ _ _ (omega arith) c.next-word.ensures.splits ∙ ap (λ o. linked o left) read in (
+    let read = sym c.number.ensures.value ∙ c.in_ok-value.was in
+    let left = numbers_of (g.row.N - (i + 1)) (words c.next_word.result.1.now) in
+    let turn = numbers_more _ _ _ _ _ (omega arith) c.next_word.ensures.splits ∙ ap (λ o. linked o left) read in (
       length-set xs i x ∙ c.loop-value.invariant.0,
       c.loop-value.invariant.1 ∙ ap (after (take i xs)) turn ∙ after_push (take i xs) x left ∙ ap (λ ys. after ys left) (sym (take_more_set xs i x within)),
     )

@@ -8,8 +8,8 @@ pub loop-number-preserved : goal.loop-number-preserved
 loop-number-preserved c =
     let ns = c.args.numbers.now in
     let i = c.loop-number.number-index in
-    let pushed = c.in-ok-push-str.ensures.bytes in
-    let word = c.as-str.ensures.value ∙ c.in-ok-word.ensures in
+    let pushed = c.in_ok-push_str.ensures.bytes in
+    let word = c.as_str.ensures.value ∙ c.in_ok-word.ensures in
     pushed ∙ (λ j. c.loop-number.invariant j ++ word j) ∙ sym (spaced-more (take i ns) _) ∙ ap spaced_of (sym (take_more ns i 0 c.loop-number-test.true))
 
 pub returns : goal.returns

@@ -13,5 +13,5 @@ loop-rest-preserved c =
     let items = vec_items c.loop-rest.bytes in
     let some : 2 ≤ length ds = search rules in
     let turn : hex_bytes ds ≡ linked (Some c.in-Some.byte) left = first_two ds some ∙ ap (λ o. linked o left) (sym c.in-Some.ensures) in
-    let more : vec_items c.push.new.self ≡ items ++ c.in-Some.byte ∷ [] = c.in-ok-push.ensures.items in
+    let more : vec_items c.push.new.self ≡ items ++ c.in-Some.byte ∷ [] = c.in_ok-push.ensures.items in
     rw (more, take_rest ds 2) (c.loop-rest.invariant ∙ ap (after items) turn ∙ after_push items c.in-Some.byte left)

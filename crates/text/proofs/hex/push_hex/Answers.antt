@@ -47,7 +47,7 @@ loop-byte-preserved c =
     let bs = c.args.bytes.now in
     let i = c.loop-byte.byte-index in
     let within = c.loop-byte-test.true in
-    let both = pushed-digit (string_bytes c.args.text.now) (halfway bs i within) (string_bytes c.push.new.self) (string_bytes c.push-in-loop-byte.new.self) (get_or bs i 0 % 16) c.hex-char-in-loop-byte.result (omega arith) (high (at·loop-byte-again c).In-ok-push) c.hex-char-in-loop-byte.ensures c.in-ok-push-2.ensures.bytes in
+    let both = pushed-digit (string_bytes c.args.text.now) (halfway bs i within) (string_bytes c.push.new.self) (string_bytes c.push-in-loop-byte.new.self) (get_or bs i 0 % 16) c.hex_char-in-loop-byte.result (omega arith) (high (at·loop-byte-again c).In-ok-push) c.hex_char-in-loop-byte.ensures c.in-ok-push-2.ensures.bytes in
     both ∙ ap (λ ds. string_bytes c.args.text.now ++ ds) (sym (hex_of-more bs i within))
 
 pub returns : goal.returns
@@ -55,5 +55,5 @@ returns c =
     let bs = c.args.bytes.now in
     record {
       written = c.loop-byte.invariant ∙ ap (λ xs. string_bytes c.args.text.now ++ hex_of xs) (take_all _ bs c.loop-byte-test.false);
-      reads-back = reads-back bs (λ k. (c.type-inv.bytes k).fits);
+      reads_back = reads-back bs (λ k. (c.type-inv.bytes k).fits);
     }

@@ -12,7 +12,7 @@ returns-then-is-blank-blank c =
 
 pub loop-i-preserved : goal.loop-i-preserved
 loop-i-preserved c =
-    let goes = prefix_len-drop_yes (of_kind c.args.blank) c.args.line.now c.loop-i.i 0 c.loop-i-test.true (kind-is _ _ _ c.is-blank.ensures ∙ not-false _ c.if-is-blank-blank.false) in
+    let goes = prefix_len-drop_yes (of_kind c.args.blank) c.args.line.now c.loop-i.i 0 c.loop-i-test.true (kind-is _ _ _ c.is_blank.ensures ∙ not-false _ c.if-is_blank-blank.false) in
     omega (arith, c.loop-i.invariant)
 
 pub returns : goal.returns

@@ -3,4 +3,4 @@ use Rattle.std.proofs.lemmas.Slice.Eq.{slice_eq-Decides, bytes_eq-Decides}
 use Rattle.text.proofs.words.same_text.Goals as goal
 
 pub returns : goal.returns
-returns c = rw c.as-bytes.ensures.value at (same_from_decides _ _ (slice_eq-Decides Decides-eqb _ _ _ c.eq.ensures) (bytes_eq-Decides _ _))
+returns c = rw c.as_bytes.ensures.value at (same_from_decides _ _ (slice_eq-Decides Decides-eqb _ _ _ c.eq.ensures) (bytes_eq-Decides _ _))

@@ -17,7 +17,7 @@ loop-i-preserved c =
     let l = length_digits c.args.width c.args.value in
     let t : take (i + 1) ds ≡ take i ds ++ get_or ds i 0 ∷ [] = take_more ds i 0 (omega arith) in
     let b = and_mask (c.args.value / 2 ^ (c.args.width - 1 - i)) 1 ∙ sym (get_or-digits c.args.width c.args.value i c.loop-i-test.true) in
-    subst (λ xs. Adds c.args.self.now xs c.push-bit.new.self) (ap (λ d. take i ds ++ d ∷ []) b ∙ sym t) (adds c.loop-i.invariant c.push-bit.ensures)
+    subst (λ xs. Adds c.args.self.now xs c.push_bit.new.self) (ap (λ d. take i ds ++ d ∷ []) b ∙ sym t) (adds c.loop-i.invariant c.push_bit.ensures)
 
 pub returns : goal.returns
 returns c =

@@ -8,5 +8,5 @@ returns-then-out-n c = refused c.args.self.now c.args.out.now (omega arith)
 pub returns : goal.returns
 returns c =
     let b = c.args.self.now in
-    let after = c.copy-front.ensures.copied ∙ ap (λ k. take k b.bytes ++ drop k c.args.out.now) c.bytes-for-n.ensures in
-    gone-out b c.args.out.now _ c.copy-front.ensures.bytes (omega arith) after
+    let after = c.copy_front.ensures.copied ∙ ap (λ k. take k b.bytes ++ drop k c.args.out.now) c.bytes_for-n.ensures in
+    gone-out b c.args.out.now _ c.copy_front.ensures.bytes (omega arith) after
