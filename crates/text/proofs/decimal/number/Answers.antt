@@ -17,11 +17,11 @@ returns-then-digit-lt48 c =
       small = tt;
     }
 
-pub overflow-mul-value : goal.overflow-mul-value
-overflow-mul-value c = let room = value_room c.loop-digit.value c.loop-digit.digit-index 14 c.loop-digit.invariant.1 (omega arith) in omega arith
+pub overflow_mul-value : goal.overflow_mul-value
+overflow_mul-value c = let room = value_room c.loop-digit.value c.loop-digit.digit-index 14 c.loop-digit.invariant.1 (omega arith) in omega arith
 
-pub overflow-add-value : goal.overflow-add-value
-overflow-add-value c = let room = value_room c.loop-digit.value c.loop-digit.digit-index 14 c.loop-digit.invariant.1 (omega arith) in omega arith
+pub overflow_add-value : goal.overflow_add-value
+overflow_add-value c = let room = value_room c.loop-digit.value c.loop-digit.digit-index 14 c.loop-digit.invariant.1 (omega arith) in omega arith
 
 pub loop-digit-preserved : goal.loop-digit-preserved
 loop-digit-preserved c =

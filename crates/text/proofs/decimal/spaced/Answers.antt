@@ -1,4 +1,4 @@
-use Rattle.std.proofs.Common.{◌++◌, take, string_bytes, sym, ap, ◌∙◌}
+use Rattle.std.proofs.Common.{◌++◌, take, sym, ap, ◌∙◌}
 use Rattle.std.proofs.lemmas.List.{take_all, take_more}
 use Rattle.text.specs.Numbers.{spaced_of}
 use Rattle.text.proofs.Values.{spaced-more}

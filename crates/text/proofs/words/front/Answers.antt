@@ -5,9 +5,9 @@ use Rattle.text.specs.Words.{of_kind}
 use Rattle.text.proofs.Splits.{kind-is}
 use Rattle.text.proofs.words.front.Goals as goal
 
-pub returns-then-is-blank-blank : goal.returns-then-is-blank-blank
-returns-then-is-blank-blank c =
-    let stops = prefix_len-drop_no (of_kind c.args.blank) c.args.line.now c.loop-i.i 0 c.loop-i-test.true (kind-is _ _ _ c.is-blank.ensures ∙ not-true _ c.if-is-blank-blank.true) in
+pub returns-then-is_blank-blank : goal.returns-then-is_blank-blank
+returns-then-is_blank-blank c =
+    let stops = prefix_len-drop_no (of_kind c.args.blank) c.args.line.now c.loop-i.i 0 c.loop-i-test.true (kind-is _ _ _ c.is_blank.ensures ∙ not-true _ c.if-is_blank-blank.true) in
     record { value = omega (arith, c.loop-i.invariant); within = omega arith }
 
 pub loop-i-preserved : goal.loop-i-preserved
