@@ -1,5 +1,5 @@
 -- A number within its width is accepted.
-use Rattle.std.proofs.Common.{◌≡◌, ℕ, ◌^◌, ◌<◌, Ok, ap, ◌∙◌}
+use Rattle.std.proofs.Common.{◌≡◌, ℕ, ◌^◌, ◌<◌, Ok, ap}
 use Rattle.std.proofs.lemmas.Bool.{lt-ltb}
 use Rattle.fields.specs.Values.{checked}
 
