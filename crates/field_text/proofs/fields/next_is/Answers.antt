@@ -8,5 +8,5 @@ use Rattle.field_text.proofs.fields.next_is.Goals as goal
 pub returns : goal.returns
 returns c =
     let e = c.args.element in
-    c.same-text.ensures ∙ (λ i. bytes_eq (c.name-and-digits.ensures.name i) (c.field-name.ensures i))
-    ∙ sym (ap (begins e) c.word-at.ensures ∙ begins-first e c.word-at.result.0.now (words (drop c.word-at.result.1 c.args.text.now)))
+    c.same_text.ensures ∙ (λ i. bytes_eq (c.name_and_digits.ensures.name i) (c.field_name.ensures i))
+    ∙ sym (ap (begins e) c.word_at.ensures ∙ begins-first e c.word_at.result.0.now (words (drop c.word_at.result.1 c.args.text.now)))

@@ -11,13 +11,13 @@ returns-then-at-text c =
     let empty = take_rest t (length t) ∙ drop_all (length t) t (omega arith) in
     ap words none ∙ sym (ap (λ w. starts_with w (words (drop c.args.at t))) empty)
 
-pub overflow-sub-result : goal.overflow-sub-result
-overflow-sub-result c =
+pub overflow_sub-result : goal.overflow_sub-result
+overflow_sub-result c =
     let t = c.args.text.now in
-    rest-within t c.args.at c.next-word.result.1.now (c.next-word.ensures.rest ∙ ap rest_of (take_rest t c.args.at))
+    rest-within t c.args.at c.next_word.result.1.now (c.next_word.ensures.rest ∙ ap rest_of (take_rest t c.args.at))
 
 pub returns : goal.returns
 returns c =
     let t = c.args.text.now in
-    let place = rest-place t c.args.at c.next-word.result.1.now (c.next-word.ensures.rest ∙ ap rest_of (take_rest t c.args.at)) in
-    ap words (sym (take_rest t c.args.at)) ∙ c.next-word.ensures.splits ∙ ap (λ r. starts_with c.next-word.result.0.now (words r)) (sym place)
+    let place = rest-place t c.args.at c.next_word.result.1.now (c.next_word.ensures.rest ∙ ap rest_of (take_rest t c.args.at)) in
+    ap words (sym (take_rest t c.args.at)) ∙ c.next_word.ensures.splits ∙ ap (λ r. starts_with c.next_word.result.0.now (words r)) (sym place)

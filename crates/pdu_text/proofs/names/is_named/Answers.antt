@@ -5,4 +5,4 @@ use Rattle.pdu_text.proofs.names.is_named.Goals as goal
 
 pub returns : goal.returns
 unfolding is_named
-returns c = c.same-text.ensures ∙ ap (bytes_eq c.args.word.now) c.pdu-name.ensures
+returns c = c.same_text.ensures ∙ ap (bytes_eq c.args.word.now) c.pdu_name.ensures

@@ -2,4 +2,4 @@ use Rattle.field_text.proofs.FieldLaws.{told}
 use Rattle.pdu_text_writing.proofs.lists.ListedRequestWriteItem.write.Goals as goal
 
 pub returns : goal.returns
-returns c = told c.in-ok-write-field.ensures c.in-ok-write-called.ensures
+returns c = told c.in_ok-write_field.ensures c.in_ok-write_called.ensures
