@@ -1,13 +1,13 @@
 -- What `digits`, `number` and `unpack` are to each other.
 use Rattle.std.proofs.Common.{◌≡◌, ℕ, zero, suc, ◌+◌, ◌-◌, ◌*◌, ◌/◌, ◌%◌, ◌^◌, ◌<◌, ◌≤◌, List, [], ◌∷◌, ◌++◌, length, get_or, take, drop, Ok, Err, sym, refl, ap, ◌∙◌, subst, pow-suc, add-one, arith, length-drop, length-take, length-take-le, get_or-drop, get_or-take, pow_mono}
-use native.Mathlib.Nat.{zero-div, zero-mod}
+use native.Mathlib.Nat.{zero-div}
 use Rattle.std.specs.Int.Digits.{number_from_digits}
 use Rattle.std.proofs.lemmas.Int.Digits.{number_push, number_more}
-use Rattle.std.proofs.lemmas.List.{length_push, take_more, get_or_past}
+use Rattle.std.proofs.lemmas.List.{length_push, take_more}
 use Rattle.std.proofs.lemmas.Bool.{cond-true, cond-false, le-leb, lt-leb}
 use Rattle.bits.specs.declared.fault.ElementName.{ElementName}
 use Rattle.bits.specs.Reading.{taken, ends_inside}
-use Rattle.bits.specs.Bits.{byte_bits, unpack, bits_of, digits, Bitlike}
+use Rattle.bits.specs.Bits.{unpack, bits_of, digits, Bitlike}
 
 pub length_digits : (w v : ℕ) → length (digits w v) ≡ w
 unfolding digits

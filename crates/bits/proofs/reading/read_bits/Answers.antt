@@ -1,4 +1,4 @@
-use Rattle.std.proofs.Common.{◌≡◌, ◌+◌, ◌-◌, ◌*◌, ◌/◌, ◌%◌, ◌^◌, ◌<◌, ◌≤◌, length, get_or, take, drop, Ok, Err, sym, ap, ◌∙◌, arith, rules}
+use Rattle.std.proofs.Common.{◌≡◌, ◌+◌, ◌-◌, ◌/◌, ◌%◌, ◌^◌, ◌≤◌, length, get_or, take, drop, Ok, sym, ap, ◌∙◌, arith}
 use Rattle.std.specs.Int.Digits.{number_from_digits}
 use Rattle.std.proofs.lemmas.Nat.{and_mask}
 use Rattle.std.proofs.lemmas.Bool.{leb-true, leb-false}
@@ -11,8 +11,8 @@ returns-then-not-reaches c =
     let h = leb-false _ _ (sym c.reaches.ensures ∙ c.if-not-reaches.true) in
     sym (taken-err c.args.width c.args.element (bits_of c.args.bytes.now c.args.bits) c.args.at h)
 
-pub overflow-add-i-end : goal.overflow-add-i-end
-overflow-add-i-end c =
+pub overflow_add-i-end : goal.overflow_add-i-end
+overflow_add-i-end c =
     let h = leb-true _ _ (sym c.reaches.ensures ∙ c.if-not-reaches.false) in
     let w = bits_of-within c.args.bytes.now c.args.bits in
     record { fits = omega arith }
@@ -23,14 +23,14 @@ bounds-bytes-i c =
     let w = bits_of-within c.args.bytes.now c.args.bits in
     omega arith
 
-pub overflow-mul-value : goal.overflow-mul-value
-overflow-mul-value c =
+pub overflow_mul-value : goal.overflow_mul-value
+overflow_mul-value c =
     let h = leb-true _ _ (sym c.reaches.ensures ∙ c.if-not-reaches.false) in
     let s = number-room c.args.bytes.now c.args.bits c.args.at c.loop-i.i c.loop-i.auto.i (omega arith) (omega arith) in
     record { fits = omega (arith, c.loop-i.invariant) }
 
-pub overflow-add-value : goal.overflow-add-value
-overflow-add-value c =
+pub overflow_add-value : goal.overflow_add-value
+overflow_add-value c =
     let h = leb-true _ _ (sym c.reaches.ensures ∙ c.if-not-reaches.false) in
     let s = number-room c.args.bytes.now c.args.bits c.args.at c.loop-i.i c.loop-i.auto.i (omega arith) (omega arith) in
     let b : c.from.result ≡ get_or c.args.bytes.now (c.loop-i.i / 8) 0 / 2 ^ (7 - c.loop-i.i % 8) % 2 = c.from.ensures ∙ and_mask _ 1 in

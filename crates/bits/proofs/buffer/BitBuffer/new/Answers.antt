@@ -1,7 +1,7 @@
-use Rattle.std.proofs.Common.{◌≤◌, refl, lit≤}
+use Rattle.std.proofs.Common.{refl, lit≤}
 use Rattle.bits.specs.Bits.{unpack}
 use Rattle.bits.proofs.buffer.BitBuffer.new.Goals as goal
 
-pub invariant-of-result : goal.invariant-of-result
+pub invariant_of-result : goal.invariant_of-result
 unfolding unpack
-invariant-of-result c = (refl, (lit≤ tt, (refl, tt)))
+invariant_of-result c = record { long = refl; room = lit≤ tt; clear = refl }

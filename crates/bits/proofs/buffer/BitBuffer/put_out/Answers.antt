@@ -1,4 +1,4 @@
-use Rattle.std.proofs.Common.{◌≡◌, ◌++◌, take, drop, ap, ◌∙◌, arith}
+use Rattle.std.proofs.Common.{◌++◌, take, drop, ap, ◌∙◌, arith}
 use Rattle.bits.proofs.BufferLaws.{refused, gone-out}
 use Rattle.bits.proofs.buffer.BitBuffer.put_out.Goals as goal
 
