@@ -4,7 +4,7 @@ use Rattle.std.proofs.Common.{sym, ap, ◌∙◌, ⊎_elim, arith, length-append
 use Rattle.std.proofs.lemmas.List.{drop-drop, take_at, take-append-drop}
 use Rattle.std.proofs.lemmas.Bool.{cases_lt}
 use Rattle.std.specs.Int.Digits.{number_from_digits}
-use Rattle.bits.specs.Bits.{digits, Bitlike}
+use Rattle.bits.specs.Bits.{digits}
 use Rattle.bits.specs.Reading.{taken}
 use Rattle.bits.specs.declared.fault.ElementName.{ElementName}
 use Rattle.bits.specs.declared.fault.Fault.{Fault}
