@@ -1,5 +1,5 @@
 -- No PDU has more than 272 bits.
-use Rattle.std.proofs.Common.{ℕ, ◌+◌, ◌≤◌, length, Some, None, Option, arith, lit≤, length-append}
+use Rattle.std.proofs.Common.{◌≤◌, length, Some, None, Option, arith, lit≤, length-append}
 use Rattle.bits.specs.declared.fault.ElementName.TheVariants as name
 use Rattle.bits.proofs.BitLaws.{length_digits}
 use Rattle.element.specs.declared.listed.RetainCapability.{RetainCapability}

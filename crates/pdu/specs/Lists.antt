@@ -1,9 +1,8 @@
 -- The answer to LIST.
-use Rattle.std.specs.Prelude.{◌≡◌, ℕ, ◌+◌, List, ◌++◌, length, drop, Ok, Err, Result, refl}
+use Rattle.std.specs.Prelude.{◌≡◌, ℕ, ◌+◌, List, ◌++◌, length, drop, Ok, refl}
 use Rattle.std.proofs.Common.{sym, ap, ◌∙◌}
 use Rattle.bits.specs.Bits.{Bitlike}
 use Rattle.bits.specs.declared.fault.ElementName.TheVariants as name
-use Rattle.bits.specs.declared.fault.Fault.{Fault}
 use Rattle.element.specs.Codecs.{Codec, Reader, Anything, ◌then◌, like, nothing, and_then, and_then-from, ok_same}
 use Rattle.element.specs.Codings.{spelt}
 use Rattle.element.specs.Listed as listed
@@ -22,7 +21,6 @@ use Rattle.pdu.specs.declared.lists.ListAck.TheVariants as acks
 use Rattle.pdu.specs.declared.lists.ListedRequest.{ListedRequest}
 use Rattle.pdu.specs.declared.lists.Listing.{Listing}
 use Rattle.pdu.specs.declared.lists.Listing.TheVariants as listings
-use Rattle.pdu.specs.declared.lists.RequestCounts.{RequestCounts}
 
 module _ {A : Type 0} (c : Codec A) where
   abbrev pub two : Codec (A × A)

@@ -1,10 +1,9 @@
 -- The PDUs after their type, element after element.
-use Rattle.std.specs.Prelude.{◌≡◌, ℕ, ◌+◌, ◌<◌, ◌≤◌, Bool, true, false, cond, List, [], ◌++◌, length, drop, Ok, Err, Result, nat_le, refl}
+use Rattle.std.specs.Prelude.{◌≡◌, ℕ, ◌+◌, ◌<◌, Bool, true, false, cond, List, [], ◌++◌, length, drop, Ok, nat_le, refl}
 use Rattle.std.proofs.Common.{sym, ap, ◌∙◌, append-nil, arith, length-append, length-drop}
 use Rattle.std.proofs.lemmas.Bool.{cond-true, cond-false, le-leb, lt-leb}
 use Rattle.bits.specs.Bits.{Bitlike}
 use Rattle.bits.specs.declared.fault.ElementName.TheVariants as name
-use Rattle.bits.specs.declared.fault.Fault.{Fault}
 use Rattle.bits.proofs.BitLaws.{length_digits}
 use Rattle.element.specs.Codecs.{Form, Nothing, Codec, Reader, ◌then◌, like, lead}
 use Rattle.element.specs.Codings.{spelt}

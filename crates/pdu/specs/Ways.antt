@@ -1,8 +1,7 @@
 -- Forms whose second part goes by the first.
-use Rattle.std.specs.Prelude.{◌≡◌, ℕ, ◌+◌, List, ◌++◌, length, drop, Ok, Err, Result}
+use Rattle.std.specs.Prelude.{◌≡◌, ℕ, ◌+◌, List, ◌++◌, length, drop, Ok}
 use Rattle.std.proofs.Common.{sym, ap, ◌∙◌, append_assoc, arith, length-append}
 use Rattle.bits.specs.Bits.{Bitlike}
-use Rattle.bits.specs.declared.fault.Fault.{Fault}
 use Rattle.element.specs.Codecs.{Form, Codec, Reader, ReadsBack, IsWritten, and_then, and_then-from, ok_same, drop_past}
 
 -- A value whose first part is a key, and what follows goes by the key.

@@ -1,6 +1,5 @@
 -- A whole PDU: supplementary service, type of PDU, and what follows by the type.
-use Rattle.std.specs.Prelude.{◌≡◌, ℕ, ◌+◌, List, [], ◌++◌, length, drop, Ok, Err, Result, refl}
-use Rattle.bits.specs.Bits.{Bitlike}
+use Rattle.std.specs.Prelude.{◌≡◌, ℕ, List, Result, refl}
 use Rattle.bits.specs.declared.fault.ElementName.TheVariants as name
 use Rattle.bits.specs.declared.fault.Fault.{Fault}
 use Rattle.element.specs.Codecs.{Form, Nothing, Codec, Reader, lead}
