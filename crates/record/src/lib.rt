@@ -48,7 +48,7 @@ impl<R> Test<R> for Every {
 
 // The place of the first record that passes.
 pub fn find<R, T: Test<R>>(records: &[R], test: &T) -> Option<usize>
-    ensures place { result ≡ find_index (passes test.now) records.now }
+    ensures place { result ≡ find_index (T.Test.passes test.now) records.now }
     ensures within { IfSome result (λ i. i < length records.now) }
 {
     for (i, item) in records.iter().enumerate() {
@@ -61,7 +61,7 @@ pub fn find<R, T: Test<R>>(records: &[R], test: &T) -> Option<usize>
 
 // The first record that passes.
 pub fn first<R: Copy, T: Test<R>>(records: &[R], test: &T) -> Option<R>
-    ensures { result ≡ first_of (passes test.now) records.now }
+    ensures { result ≡ first_of (T.Test.passes test.now) records.now }
 {
     match find(records, test) {
         Some(i) => Some(records[i]),
@@ -71,7 +71,7 @@ pub fn first<R: Copy, T: Test<R>>(records: &[R], test: &T) -> Option<R>
 
 // Puts a record in the place of the first that passes.
 pub fn put_first<R: Copy, T: Test<R>>(records: &mut Vec<R>, test: &T, new: R)
-    ensures items { records.new.items ≡ put_first (passes test.now) new records.old.items }
+    ensures items { records.new.items ≡ put_first (T.Test.passes test.now) new records.old.items }
     ensures len { vec_len records.new ≡ vec_len records.old }
     ensures capacity { vec_capacity records.new ≡ vec_capacity records.old }
 {
@@ -82,7 +82,7 @@ pub fn put_first<R: Copy, T: Test<R>>(records: &mut Vec<R>, test: &T, new: R)
 
 // Erases the first record that passes; those after it keep their order.
 pub fn erase_first<R: Copy, T: Test<R>>(records: &mut Vec<R>, test: &T)
-    ensures items { records.new.items ≡ drop_first (passes test.now) records.old.items }
+    ensures items { records.new.items ≡ drop_first (T.Test.passes test.now) records.old.items }
     ensures len { vec_len records.new ≤ vec_len records.old }
     ensures capacity { vec_capacity records.new ≡ vec_capacity records.old }
 {

@@ -11,9 +11,9 @@ returns-in-Some g c =
       capacity = c.remove.ensures.capacity;
     }
 
-pub returns-in-default : goal.returns-in-default
-returns-in-default g c =
-    let place = rw c.deref.ensures.value at c.in-default.ensures.place in
+pub returns-in_default : goal.returns-in_default
+returns-in_default g c =
+    let place = rw c.deref.ensures.value at c.in_default.ensures.place in
     record {
       items = (missing _ _ place).dropped;
       len = omega arith;

@@ -8,8 +8,8 @@ returns-in-Some g c =
     let put = (found _ _ _ place).put c.args.new in
     record { items = put; len = search rules; capacity = search rules }
 
-pub returns-in-default : goal.returns-in-default
-returns-in-default g c =
-    let place = rw c.deref.ensures.value at c.in-default.ensures.place in
+pub returns-in_default : goal.returns-in_default
+returns-in_default g c =
+    let place = rw c.deref.ensures.value at c.in_default.ensures.place in
     let put = (missing _ _ place).put c.args.new in
     record { items = put; len = search rules; capacity = search rules }
