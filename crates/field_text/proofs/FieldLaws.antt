@@ -1,5 +1,5 @@
 -- A field that was told is heard, and the words of a text of fields are the fields.
-use Rattle.std.proofs.Common.{◌≡◌, ℕ, zero, suc, ◌+◌, ◌-◌, ◌*◌, ◌/◌, ◌%◌, ◌^◌, ◌<◌, ◌≤◌, Bool, true, false, cond, ◌&&◌, eqb, ltb, List, [], ◌∷◌, ◌++◌, length, Some, None, Ok, decimal, Option, sym, refl, ap, ◌∙◌, append_assoc, append-nil, arith, lit<}
+use Rattle.std.proofs.Common.{◌≡◌, ℕ, zero, suc, ◌+◌, ◌-◌, ◌*◌, ◌/◌, ◌%◌, ◌^◌, ◌<◌, ◌≤◌, Bool, true, false, cond, eqb, List, [], ◌∷◌, ◌++◌, Some, None, Ok, decimal, Option, sym, refl, ap, ◌∙◌, append_assoc, append-nil, arith, lit<}
 use native.Mathlib.Nat.{pow-le-pow_right}
 use Rattle.std.proofs.lemmas.Fmt.{decimal_by_steps, decimal_nonempty, length-decimal-le}
 use Rattle.std.proofs.lemmas.Bool.{lt-ltb}
@@ -13,7 +13,7 @@ use Rattle.text.specs.Numbers.{is_digit, decimal_after, number_of}
 use Rattle.text.specs.Words.{is_blank, before, words_after, words, starts_with}
 use Rattle.text.proofs.Values.{a-digit, sized}
 use Rattle.field_text.specs.Names.{field_name}
-use Rattle.field_text.specs.Fields.{Field, field_word, words_of, text_of, Tells, name_in, digits_in, within, value_in, Heard, listed_or, valued_or, field_heard, begins}
+use Rattle.field_text.specs.Fields.{Field, field_word, words_of, text_of, Tells, name_in, digits_in, within, value_in, listed_or, valued_or, field_heard, begins}
 
 pub words_of-append : (xs ys : List Field) → words_of (xs ++ ys) ≡ words_of xs ++ words_of ys
 words_of-append [] ys = refl

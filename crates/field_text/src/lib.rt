@@ -2,9 +2,9 @@
 #![tactic(auto)]
 
 pub mod fault;
-pub mod fields;
+pub mod field;
 pub mod names;
 
 pub use fault::TextFault;
-pub use fields::{next_is, read_field, word_at, write_field};
+pub use field::{next_is, read_field, word_at, write_field};
 pub use names::field_name;

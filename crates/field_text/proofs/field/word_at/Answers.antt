@@ -2,7 +2,7 @@ use Rattle.std.proofs.Common.{length, drop, sym, ap, ◌∙◌, arith}
 use Rattle.std.proofs.lemmas.List.{drop_all, take_rest}
 use Rattle.text.specs.Words.{words, starts_with, rest_of}
 use Rattle.field_text.proofs.Places.{rest-place, rest-within}
-use Rattle.field_text.proofs.fields.word_at.Goals as goal
+use Rattle.field_text.proofs.field.word_at.Goals as goal
 
 pub returns-then-at-text : goal.returns-then-at-text
 returns-then-at-text c =

@@ -2,7 +2,7 @@ use Rattle.std.proofs.Common.{drop, sym, ap, ◌∙◌}
 use Rattle.text.specs.Words.{words}
 use Rattle.field_text.specs.Fields.{listed_or, valued_or}
 use Rattle.field_text.proofs.FieldLaws.{field-first}
-use Rattle.field_text.proofs.fields.read_field.Goals as goal
+use Rattle.field_text.proofs.field.read_field.Goals as goal
 
 pub returns-in_default : goal.returns-in_default
 returns-in_default g c =

@@ -3,7 +3,7 @@ use Rattle.std.specs.Str.{bytes_eq}
 use Rattle.text.specs.Words.{words}
 use Rattle.field_text.specs.Fields.{begins}
 use Rattle.field_text.proofs.FieldLaws.{begins-first}
-use Rattle.field_text.proofs.fields.next_is.Goals as goal
+use Rattle.field_text.proofs.field.next_is.Goals as goal
 
 pub returns : goal.returns
 returns c =

@@ -1,10 +1,10 @@
-use Rattle.std.proofs.Common.{◌≡◌, ◌+◌, not, eqb, length, take, drop, sym, ap, ◌∙◌, arith}
+use Rattle.std.proofs.Common.{◌≡◌, ◌+◌, not, length, take, drop, sym, ap, ◌∙◌, arith}
 use Rattle.std.proofs.lemmas.List.{take_rest, take_all, drop_all}
 use Rattle.std.proofs.lemmas.List.Sums.{prefix_len-drop_yes, prefix_len-drop_no, prefix_len-drop_all}
 use Rattle.std.proofs.lemmas.Bool.{ne_eqb, eq-eqb}
 use Rattle.std.specs.List.{prefix_len}
 use Rattle.field_text.specs.Fields.{spells}
-use Rattle.field_text.proofs.fields.name_and_digits.Goals as goal
+use Rattle.field_text.proofs.field.name_and_digits.Goals as goal
 
 pub returns-then-byte-eq61 : goal.returns-then-byte-eq61
 returns-then-byte-eq61 c =

@@ -1,7 +1,7 @@
 use Rattle.std.proofs.Common.{◌∷◌, ◌++◌, string_bytes, decimal, sym, ap, ◌∙◌}
 use Rattle.field_text.specs.Names.{field_name}
 use Rattle.field_text.proofs.FieldLaws.{one_told}
-use Rattle.field_text.proofs.fields.write_field.Goals as goal
+use Rattle.field_text.proofs.field.write_field.Goals as goal
 
 pub returns : goal.returns
 returns g c =
