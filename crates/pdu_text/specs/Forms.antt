@@ -1,10 +1,9 @@
 -- A form of text: the fields that a value is told by, how it is heard from words, and that what was told is heard.
-use Rattle.std.specs.Prelude.{◌≡◌, ℕ, List, [], ◌∷◌, ◌++◌, Ok, Err, Result, refl}
+use Rattle.std.specs.Prelude.{◌≡◌, ℕ, List, [], ◌∷◌, ◌++◌, Ok, Err, refl}
 use Rattle.std.proofs.Common.{sym, ap, ◌∙◌, append_assoc, append-nil}
 use Rattle.bits.specs.declared.fault.ElementName.{ElementName}
 use Rattle.element.specs.Codings.{Coding}
 use Rattle.field_text.specs.Fields.{Field, words_of, Heard, field_heard}
-use Rattle.field_text.specs.declared.fault.TextFault.{TextFault}
 use Rattle.field_text.proofs.FieldLaws.{words_of-append, field-heard}
 
 abbrev pub and_then : {A : Type 0} {B : Type 0} → Heard A → (A → List (List ℕ) → Heard B) → Heard B

@@ -1,6 +1,6 @@
 -- The text of the answer to LIST.
 use Rattle.std.specs.Prelude.{◌≡◌, ℕ, List, ◌++◌, Ok, refl}
-use Rattle.std.proofs.Common.{ap, ◌∙◌}
+use Rattle.std.proofs.Common.{ap}
 use Rattle.bits.specs.declared.fault.ElementName.TheVariants as name
 use Rattle.element.specs.Listed as listed
 use Rattle.element.specs.declared.listed.ListRequest.{ListRequest}
@@ -17,7 +17,6 @@ use Rattle.pdu.specs.declared.lists.ListAck.TheVariants as acks
 use Rattle.pdu.specs.declared.lists.ListedRequest.{ListedRequest}
 use Rattle.pdu.specs.declared.lists.Listing.{Listing}
 use Rattle.pdu.specs.declared.lists.Listing.TheVariants as listings
-use Rattle.pdu.specs.declared.lists.RequestCounts.{RequestCounts}
 use Rattle.field_text.specs.Fields.{Field, words_of, Heard}
 use Rattle.pdu_text.specs.Forms.{Form, and_then, field, nothing, way, way-heard, like, keyed, ◌then◌}
 use Rattle.pdu_text.specs.Parts.{ccbsi, called, list_request, reject_cause}

@@ -1,6 +1,5 @@
 -- The parts that the texts of PDUs are made of.
 use Rattle.std.specs.Prelude.{◌≡◌, ℕ, Bool, List, [], ◌∷◌, ◌++◌, Some, None, Ok, Option, refl}
-use Rattle.std.proofs.Common.{ap, ◌∙◌}
 use Rattle.bits.specs.declared.fault.ElementName.{ElementName}
 use Rattle.bits.specs.declared.fault.ElementName.TheVariants as name
 use Rattle.element.specs.Listed as listed

@@ -1,5 +1,5 @@
 -- The fields of each PDU, in the order of its table.
-use Rattle.std.specs.Prelude.{◌≡◌, ℕ, cond, List, ◌∷◌, ◌++◌, Ok, refl}
+use Rattle.std.specs.Prelude.{◌≡◌, ℕ, cond, List, ◌++◌, Ok, refl}
 use Rattle.std.proofs.Common.{ap, ◌∙◌}
 use Rattle.bits.specs.declared.fault.ElementName.TheVariants as name
 use Rattle.element.specs.Listed as listed
