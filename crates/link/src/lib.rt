@@ -47,8 +47,8 @@ pub trait Link {
 
 // Whether nothing waits, on a link of any make; none is ever over its capacity.
 pub fn is_empty<L: Link>(link: &L) -> bool
-    ensures answer { result ≡ (length (waiting link.now) == 0) }
-    ensures within { Bounded (capacity link.now) (waiting link.now) }
+    ensures answer { result ≡ (length (L.waiting link.now) == 0) }
+    ensures within { Bounded (L.capacity link.now) (L.waiting link.now) }
 {
     link.first().is_err()
 }

@@ -4,15 +4,15 @@ use Rattle.link.specs.Messages.{after}
 use Rattle.link.proofs.Spelling.{read-to-kind}
 use Rattle.link.proofs.plain.read.Goals as goal
 
-pub returns-in-err-kind : goal.returns-in-err-kind
-returns-in-err-kind c =
-    let key = c.in-ok-key.key in
-    let failed = err_from_is_err_and c.from-residual-in-err-kind.result c.from-residual-in-err-kind.ensures.1 in
-    failed.1 ∙ ap Err failed.2 ∙ ap (λ r. after r (λ kind. Ok (record { kind = kind; key = key }))) c.in-err-kind.ensures
-    ∙ read-to-kind c.args.plain key c.in-ok-call.call c.in-ok-key.ensures c.in-ok-call.ensures
+pub returns-in_err-kind : goal.returns-in_err-kind
+returns-in_err-kind c =
+    let key = c.in_ok-key.key in
+    let failed = err_from_is_err_and c.from_residual-in_err-kind.result c.from_residual-in_err-kind.ensures.1 in
+    failed.1 ∙ ap Err failed.2 ∙ ap (λ r. after r (λ kind. Ok (record { kind = kind; key = key }))) c.in_err-kind.ensures
+    ∙ read-to-kind c.args.plain key c.in_ok-call.call c.in_ok-key.ensures c.in_ok-call.ensures
 
 pub returns : goal.returns
 returns c =
-    let key = c.in-ok-key.key in
-    ap (λ r. after r (λ kind. Ok (record { kind = kind; key = key }))) c.in-ok-kind.ensures
-    ∙ read-to-kind c.args.plain key c.in-ok-call.call c.in-ok-key.ensures c.in-ok-call.ensures
+    let key = c.in_ok-key.key in
+    ap (λ r. after r (λ kind. Ok (record { kind = kind; key = key }))) c.in_ok-kind.ensures
+    ∙ read-to-kind c.args.plain key c.in_ok-call.call c.in_ok-key.ensures c.in_ok-call.ensures

@@ -4,5 +4,5 @@ use Rattle.link.proofs.shelf.ShelfLink.take.Goals as goal
 
 pub returns : goal.returns
 returns c =
-    let first = c.in-ok-oldest.ensures in
-    record { answer = first; list = rw c.after-head-self.ensures (taken _ _ _ _ (some_first _ _ _ _ _ first)); room = refl }
+    let first = c.in_ok-oldest.ensures in
+    record { answer = first; list = rw c.after_head-self.ensures (taken _ _ _ _ (some_first _ _ _ _ _ first)); room = refl }
