@@ -1,5 +1,5 @@
+pub mod Bounds
 pub mod Making
 pub mod Messages
 pub mod Queue
 pub mod Ring
-pub mod Turns

@@ -1,8 +1,7 @@
 // The shelf: a link that keeps messages as records, in places that its maker hands over.
 ghost use Rattle.std.specs.Prelude.{◌≡◌, ◌+◌, ◌-◌, ◌<◌, ◌≤◌, vec_len, nat_le, slice_index_or};
 ghost use Rattle.link.specs.Ring.{wrap, shelved};
-ghost use Rattle.std.proofs.Common.{arith};
-ghost use Rattle.link.specs.Turns.{length-ring};
+ghost use Rattle.link.specs.Bounds.{ring-bounded};
 
 use crate::ring::wrapped;
 use crate::{Link, Message};
@@ -60,7 +59,7 @@ impl Link for Shelf {
 
     ghost capacity = { λ s. vec_len s.places };
 
-    ghost bounded = { λ x. (omega (arith, x.within), x.few, rw length-ring x.held) };
+    ghost bounded = { λ s. ring-bounded _ _ _ _ s.within s.held s.few };
 
     fn send(&mut self, message: Message) -> Result<(), Refusal> {
         if self.is_full() {

@@ -1,7 +1,7 @@
 use Rattle.std.proofs.Common.{Ok, ap, ◌∙◌}
 use Rattle.std.proofs.lemmas.List.{get_or_read_under}
 use Rattle.link.specs.Ring.{nobody}
-use Rattle.link.specs.Turns.{first-is}
+use Rattle.link.proofs.Turns.{first-is}
 use Rattle.link.proofs.shelf.ShelfLink.first.Goals as goal
 
 pub returns : goal.returns

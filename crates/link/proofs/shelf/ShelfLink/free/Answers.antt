@@ -1,4 +1,4 @@
-use Rattle.link.specs.Turns.{length-ring}
+use Rattle.link.specs.Bounds.{length-ring}
 use Rattle.link.proofs.shelf.ShelfLink.free.Goals as goal
 
 pub returns : goal.returns

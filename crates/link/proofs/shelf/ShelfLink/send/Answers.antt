@@ -2,7 +2,7 @@ use Rattle.std.proofs.Common.{sym, refl, arith}
 use Rattle.std.proofs.lemmas.List.{get_or-set_same, get_or-set_other}
 use Rattle.std.proofs.lemmas.Bool.{leb-true, leb-false}
 use Rattle.link.specs.Ring.{nobody}
-use Rattle.link.specs.Turns.{refused, accepted, sent}
+use Rattle.link.proofs.Turns.{refused, accepted, sent}
 use Rattle.link.proofs.shelf.ShelfLink.send.Goals as goal
 
 pub returns-then-is_full : goal.returns-then-is_full

@@ -1,5 +1,5 @@
 use Rattle.std.proofs.Common.{refl}
-use Rattle.link.specs.Turns.{some_first, taken}
+use Rattle.link.proofs.Turns.{some_first, taken}
 use Rattle.link.proofs.shelf.ShelfLink.take.Goals as goal
 
 pub returns : goal.returns

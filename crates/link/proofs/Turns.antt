@@ -1,16 +1,12 @@
 -- What the calls of a link answer and leave where its messages stand in a ring.
-use Rattle.std.specs.Prelude.{◌≡◌, ℕ, zero, suc, ◌+◌, ◌-◌, ◌<◌, ◌≤◌, true, false, [], ◌∷◌, ◌++◌, length, Ok, Err, ◌≢◌, refl}
-use Rattle.std.proofs.Common.{ap, ◌∙◌, add-one, arith}
+use Rattle.std.proofs.Common.{◌≡◌, ℕ, zero, suc, ◌+◌, ◌-◌, ◌<◌, ◌≤◌, true, false, [], ◌∷◌, ◌++◌, Ok, Err, ◌≢◌, refl, ap, ◌∙◌, add-one, arith}
 use Rattle.std.proofs.lemmas.Bool.{le-leb, lt-leb}
 use Rattle.std.proofs.lemmas.Bool.Decides.{nat_tests}
 use Rattle.link.specs.declared.message.Message.{Message}
 use Rattle.fields.specs.declared.refusal.Refusal.TheVariants.{LinkFull}
+use Rattle.link.specs.Bounds.{length-ring}
 use Rattle.link.specs.Queue.{full, send_answer, send_list, first_answer, take_list}
 use Rattle.link.specs.Ring.{wrap, ring}
-
-pub length-ring : {X : Type 0} (c : ℕ) (at : ℕ → X) (i n : ℕ) → length (ring c at i n) ≡ n
-length-ring c at i zero = refl
-length-ring c at i (suc n) = ap suc (length-ring c at (wrap c (i + 1)) n)
 
 -- a write at the place after the last in use, that changes no other
 pub appended : {X : Type 0} (c : ℕ) (at new : ℕ → X) (p : ℕ) → ((k : ℕ) → (k ≢ p) → new k ≡ at k)
