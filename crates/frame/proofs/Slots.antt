@@ -9,7 +9,7 @@ use Rattle.std.proofs.lemmas.Bool.Decides.{nat_tests}
 use Rattle.link.specs.declared.message.Message.{Message}
 use Rattle.link.specs.Queue.{send_list}
 use Rattle.link.specs.Ring.{nobody, wrap, ring}
-use Rattle.link.specs.Turns.{appended, sent}
+use Rattle.link.proofs.Turns.{appended, sent}
 use Rattle.frame.specs.Frames.{frame_of, read_of}
 use Rattle.frame.specs.Rows.{read_at, message_at, Whole, written}
 use Rattle.frame.proofs.Round.{round}

@@ -4,8 +4,7 @@ ghost use Rattle.link.specs.Queue.{send_answer, send_list, first_answer, take_li
 ghost use Rattle.link.specs.Ring.{wrap};
 ghost use Rattle.frame.specs.Rows.{read_at};
 ghost use Rattle.frame.specs.Trunks.{room_on, on_trunk, bytes_sent, unused_on};
-ghost use Rattle.std.proofs.Common.{arith};
-ghost use Rattle.link.specs.Turns.{length-ring};
+ghost use Rattle.link.specs.Bounds.{ring-bounded};
 
 use crate::trunk::Trunk;
 use crate::{frame, message};
@@ -78,7 +77,7 @@ impl Link for Trunk {
 
     ghost capacity = { λ t. room_on t };
 
-    ghost bounded = { λ x. (omega (arith, x.within), x.few, rw length-ring x.held) };
+    ghost bounded = { λ t. ring-bounded _ _ _ _ t.within t.held t.few };
 
     fn send(&mut self, message: Message) -> Result<(), Refusal>
         ensures answer { result ≡ send_answer (room_on self.old) (on_trunk self.old) }

@@ -1,7 +1,7 @@
 use Rattle.std.proofs.Common.{is_ok, Ok, sym, ap, ◌∙◌}
 use Rattle.std.specs.Result.{result_unwrap_or}
 use Rattle.link.specs.Ring.{nobody}
-use Rattle.link.specs.Turns.{first-is}
+use Rattle.link.proofs.Turns.{first-is}
 use Rattle.frame.proofs.Slots.{whole-first}
 use Rattle.frame.proofs.trunk.carrying.TrunkLink.first.Goals as goal
 

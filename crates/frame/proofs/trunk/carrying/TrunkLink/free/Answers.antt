@@ -1,4 +1,4 @@
-use Rattle.link.specs.Turns.{length-ring}
+use Rattle.link.specs.Bounds.{length-ring}
 use Rattle.frame.proofs.trunk.carrying.TrunkLink.free.Goals as goal
 
 pub returns : goal.returns

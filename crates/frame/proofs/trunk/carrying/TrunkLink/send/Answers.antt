@@ -3,7 +3,7 @@ use Rattle.std.specs.Vec.{with_items}
 use Rattle.std.proofs.lemmas.List.{with_items_is}
 use Rattle.std.proofs.lemmas.Bool.{cond-false, leb-true, leb-false}
 use Rattle.std.proofs.lemmas.Bool.Decides.{nat_tests}
-use Rattle.link.specs.Turns.{is-full, not_full, refused, accepted}
+use Rattle.link.proofs.Turns.{is-full, not_full, refused, accepted}
 use Rattle.frame.proofs.Slots.{sent-frame, whole_sent, unused-kept}
 use Rattle.frame.specs.Rows.{message_at, written}
 use Rattle.frame.proofs.trunk.carrying.TrunkLink.send.Goals as goal

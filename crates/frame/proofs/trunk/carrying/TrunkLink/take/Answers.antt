@@ -1,5 +1,5 @@
 use Rattle.std.proofs.Common.{refl, rules}
-use Rattle.link.specs.Turns.{some_first, taken}
+use Rattle.link.proofs.Turns.{some_first, taken}
 use Rattle.frame.proofs.Slots.{whole-taken}
 use Rattle.frame.proofs.trunk.carrying.TrunkLink.take.Goals as goal
 
