@@ -2,4 +2,4 @@ use Rattle.bits.proofs.BufferLaws.{adds}
 use Rattle.pdu_writing.proofs.parts.write_key.Goals as goal
 
 pub returns : goal.returns
-returns c = adds c.write-element.ensures (adds c.write-identity.ensures c.write-identity-2.ensures)
+returns c = adds c.write_element.ensures (adds c.write_identity.ensures c.write_identity-2.ensures)

@@ -2,4 +2,4 @@ use Rattle.bits.proofs.BufferLaws.{adds}
 use Rattle.pdu_writing.proofs.pdus.write_request_accepted.Goals as goal
 
 pub returns : goal.returns
-returns c = adds c.write-element.ensures (adds c.write-element-2.ensures (adds c.write-element-3.ensures (adds c.write-element-4.ensures (adds c.write-element-5.ensures (adds c.write-element-6.ensures c.write-identity.ensures)))))
+returns c = adds c.write_element.ensures (adds c.write_element-2.ensures (adds c.write_element-3.ensures (adds c.write_element-4.ensures (adds c.write_element-5.ensures (adds c.write_element-6.ensures c.write_identity.ensures)))))
