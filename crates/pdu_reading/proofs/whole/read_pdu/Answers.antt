@@ -5,5 +5,5 @@ use Rattle.pdu_reading.proofs.whole.read_pdu.Goals as goal
 
 pub returns-in-None : goal.returns-in-None
 returns-in-None c =
-    let v : Ok c.in-ok-pdu.pdu ≡ decode c.args.bytes.now c.args.count = search rules in
-    record { value = v; image = accepted c.args.bytes.now c.args.count c.in-ok-pdu.pdu (λ i. (c.type-inv.bytes i).fits) (sym v) }
+    let v : Ok c.in_ok-pdu.pdu ≡ decode c.args.bytes.now c.args.count = search rules in
+    record { value = v; image = accepted c.args.bytes.now c.args.count c.in_ok-pdu.pdu (λ i. (c.type_inv.bytes i).fits) (sym v) }
