@@ -11,9 +11,9 @@ use link::{Kind, Link, Message};
 
 // Sends the reply, if there is one.
 fn answer<B: Link>(back: &mut B, key: Key, reply: Option<Kind>) -> Result<(), Refusal>
-    ensures answer { result ≡ reply_answer (capacity back.old) (waiting back.old) reply }
-    ensures list { waiting back.new ≡ reply_list (capacity back.old) (waiting back.old) key reply }
-    ensures room { capacity back.new ≡ capacity back.old }
+    ensures answer { result ≡ reply_answer (B.Link.capacity back.old) (B.Link.waiting back.old) reply }
+    ensures list { B.Link.waiting back.new ≡ reply_list (B.Link.capacity back.old) (B.Link.waiting back.old) key reply }
+    ensures room { B.Link.capacity back.new ≡ B.Link.capacity back.old }
 {
     match reply {
         Some(kind) => back.send(Message { kind, key }),

@@ -100,8 +100,8 @@ impl Terminating {
     }
 
     fn settle<B: Link>(&mut self, line: u64, number: u64, back: &mut B) -> Result<(), Refusal>
-        ensures step { (result, view self.new, waiting back.new) ≡ outcome_step (capacity back.old) (view self.old) (waiting back.old) line number }
-        ensures room { capacity back.new ≡ capacity back.old }
+        ensures step { (result, view self.new, B.Link.waiting back.new) ≡ outcome_step (B.Link.capacity back.old) (view self.old) (B.Link.waiting back.old) line number }
+        ensures room { B.Link.capacity back.new ≡ B.Link.capacity back.old }
     {
         let ending = self.ending(line, number)?;
         back.send(Message {
@@ -115,10 +115,10 @@ impl Terminating {
     // Takes the outcome of the call that rings at the line, and sends word of it: connected (1),
     // busy (2) or failed (3). The first two mark the line busy.
     pub fn outcome<B: Link>(&mut self, line: u64, number: u64, back: &mut B) -> Result<(), Refusal>
-        ensures step { (result, view self.new, waiting back.new) ≡ outcome_step (capacity back.old) (view self.old) (waiting back.old) line number }
-        ensures room { capacity back.new ≡ capacity back.old }
-        ensures as_found { AsFound {World = Office × List Sent} result (view self.old, waiting back.old) (view self.new, waiting back.new) }
-        ensures law { Lawful (view self.old) (outcome_call (capacity back.old) (waiting back.old) line number) (view self.new) }
+        ensures step { (result, view self.new, B.Link.waiting back.new) ≡ outcome_step (B.Link.capacity back.old) (view self.old) (B.Link.waiting back.old) line number }
+        ensures room { B.Link.capacity back.new ≡ B.Link.capacity back.old }
+        ensures as_found { AsFound {World = Office × List Sent} result (view self.old, B.Link.waiting back.old) (view self.new, B.Link.waiting back.new) }
+        ensures law { Lawful (view self.old) (outcome_call (B.Link.capacity back.old) (B.Link.waiting back.old) line number) (view self.new) }
     {
         self.settle(line, number, back)
     }

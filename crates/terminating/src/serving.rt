@@ -47,8 +47,8 @@ impl Terminating {
     }
 
     fn offer<B: Link>(&mut self, line: u64, back: &mut B) -> Result<(), Refusal>
-        ensures step { (result, view self.new, waiting back.new) ≡ serve_step (capacity back.old) (view self.old) (waiting back.old) line }
-        ensures room { capacity back.new ≡ capacity back.old }
+        ensures step { (result, view self.new, B.Link.waiting back.new) ≡ serve_step (B.Link.capacity back.old) (view self.old) (B.Link.waiting back.old) line }
+        ensures room { B.Link.capacity back.new ≡ B.Link.capacity back.old }
     {
         let next = self.next_served(line)?;
         back.send(Message {
@@ -62,10 +62,10 @@ impl Terminating {
 
     // Offers the line to the earliest monitor that waits for it, and sends FREE.
     pub fn serve<B: Link>(&mut self, line: u64, back: &mut B) -> Result<(), Refusal>
-        ensures step { (result, view self.new, waiting back.new) ≡ serve_step (capacity back.old) (view self.old) (waiting back.old) line }
-        ensures room { capacity back.new ≡ capacity back.old }
-        ensures as_found { AsFound {World = Office × List Sent} result (view self.old, waiting back.old) (view self.new, waiting back.new) }
-        ensures law { Lawful (view self.old) (serve_call (capacity back.old) (waiting back.old) line) (view self.new) }
+        ensures step { (result, view self.new, B.Link.waiting back.new) ≡ serve_step (B.Link.capacity back.old) (view self.old) (B.Link.waiting back.old) line }
+        ensures room { B.Link.capacity back.new ≡ B.Link.capacity back.old }
+        ensures as_found { AsFound {World = Office × List Sent} result (view self.old, B.Link.waiting back.old) (view self.new, B.Link.waiting back.new) }
+        ensures law { Lawful (view self.old) (serve_call (B.Link.capacity back.old) (B.Link.waiting back.old) line) (view self.new) }
     {
         self.offer(line, back)
     }

@@ -4,9 +4,9 @@ use Rattle.terminating.proofs.office.Terminating.hear.Goals as goal
 
 pub returns : goal.returns
 returns g c = record {
-  step = c.take-up.ensures.step;
-  out-room = c.take-up.ensures.out-room;
-  back-room = c.take-up.ensures.back-room;
-  as-found = hear-as-found _ _ _ _ _ _ _ _ c.take-up.ensures.step;
-  law = lawful _ _ _ (ap (λ x. x.1) c.take-up.ensures.step);
+  step = c.take_up.ensures.step;
+  out_room = c.take_up.ensures.out_room;
+  back_room = c.take_up.ensures.back_room;
+  as_found = hear-as-found _ _ _ _ _ _ _ _ c.take_up.ensures.step;
+  law = lawful _ _ _ (ap (λ x. x.1) c.take_up.ensures.step);
 }

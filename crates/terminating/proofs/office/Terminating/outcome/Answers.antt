@@ -6,6 +6,6 @@ pub returns : goal.returns
 returns g c = record {
   step = c.settle.ensures.step;
   room = c.settle.ensures.room;
-  as-found = outcome-as-found (g.B.Link.capacity c.args.back.now) _ _ c.args.line c.args.number _ _ _ c.settle.ensures.step;
+  as_found = outcome-as-found (g.B.Link.capacity c.args.back.now) _ _ c.args.line c.args.number _ _ _ c.settle.ensures.step;
   law = lawful _ _ _ (ap (λ x. x.1) c.settle.ensures.step);
 }

@@ -5,4 +5,4 @@ use Rattle.terminating.proofs.office.Terminating.plan.Goals as goal
 
 pub returns-in-Some : goal.returns-in-Some
 returns-in-Some c =
-    c.plan-at.ensures ∙ ap (plan_for (view c.args.self.now) c.args.message) (rw c.deref.ensures.value at c.in-Some.ensures)
+    c.plan_at.ensures ∙ ap (plan_for (view c.args.self.now) c.args.message) (rw c.deref.ensures.value at c.in-Some.ensures)

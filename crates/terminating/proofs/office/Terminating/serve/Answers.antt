@@ -6,6 +6,6 @@ pub returns : goal.returns
 returns g c = record {
   step = c.offer.ensures.step;
   room = c.offer.ensures.room;
-  as-found = serve-as-found _ _ _ _ _ _ _ c.offer.ensures.step;
+  as_found = serve-as-found _ _ _ _ _ _ _ c.offer.ensures.step;
   law = lawful _ _ _ (ap (λ x. x.1) c.offer.ensures.step);
 }
