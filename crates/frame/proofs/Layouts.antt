@@ -1,5 +1,5 @@
 -- The fields of a number are those that it was packed from, and the other way about.
-use Rattle.std.proofs.Common.{◌≡◌, ℕ, zero, suc, ◌+◌, ◌*◌, ◌/◌, ◌%◌, ◌^◌, ◌<◌, List, [], ◌∷◌, length, get_or, replicate, sym, refl, ap, ◌∙◌, mod-eq_of_lt, mul_assoc, arith, pow_pos, pow-add}
+use Rattle.std.proofs.Common.{◌≡◌, ℕ, suc, ◌+◌, ◌*◌, ◌/◌, ◌%◌, ◌^◌, ◌<◌, List, [], ◌∷◌, length, get_or, replicate, sym, refl, ap, ◌∙◌, mod-eq_of_lt, mul_assoc, arith, pow_pos, pow-add}
 use native.Mathlib.Nat.{mul-add-div_right, mul-add-mod_self_right}
 use lib.Arith.{digits_lt, digits_div, mod-mul}
 use Rattle.frame.specs.Layout.{total, packed, split, Within}

@@ -2,7 +2,7 @@
 use Rattle.std.proofs.Common.{◌≡◌, ℕ, zero, suc, ◌+◌, ◌-◌, ◌*◌, ◌<◌, ◌≤◌, true, List, [], ◌∷◌, ◌++◌, length, get_or, take, drop, is_ok, Ok, Result, sym, refl, ap, ◌∙◌, subst, inl, inr, add-one, arith}
 use Rattle.std.specs.Result.{result_unwrap_or}
 use Rattle.fields.specs.declared.refusal.Refusal.{Refusal}
-use Rattle.std.proofs.lemmas.List.{drop_at, take_at, length-take-le, drop-take, replicate_more}
+use Rattle.std.proofs.lemmas.List.{drop_at, length-take-le, drop-take, replicate_more}
 use Rattle.std.proofs.lemmas.Slice.{take-put_mid_below, drop-put_mid}
 use Rattle.std.proofs.lemmas.Bool.{cases_lt}
 use Rattle.std.proofs.lemmas.Bool.Decides.{nat_tests}

@@ -9,9 +9,9 @@ use link::Link;
 
 // Sends the message that the frame holds, on a link of any make.
 pub fn send_frame<L: Link>(link: &mut L, frame: [u8; 15]) -> Result<(), Refusal>
-    ensures answer { result ≡ handed_answer (capacity link.old) (waiting link.old) (read_of frame) }
-    ensures list { waiting link.new ≡ handed_list (capacity link.old) (waiting link.old) (read_of frame) }
-    ensures room { capacity link.new ≡ capacity link.old }
+    ensures answer { result ≡ handed_answer (L.capacity link.old) (L.waiting link.old) (read_of frame) }
+    ensures list { L.waiting link.new ≡ handed_list (L.capacity link.old) (L.waiting link.old) (read_of frame) }
+    ensures room { L.capacity link.new ≡ L.capacity link.old }
 {
     let sent = message(frame)?;
     link.send(sent)

@@ -10,4 +10,4 @@ pack-requires c = subst (λ p. Within layout (listed p)) (sym c.plain.ensures.va
 pub returns : goal.returns
 returns c =
     let is = c.bytes.ensures ∙ ap (split octets) (c.pack.ensures ∙ ap (λ p. packed layout (listed p)) c.plain.ensures.value) in
-    record { value = is; reads-back = ap read_of is ∙ round c.args.message }
+    record { value = is; reads_back = ap read_of is ∙ round c.args.message }

@@ -1,4 +1,4 @@
-use Rattle.std.proofs.Common.{◌≡◌, ◌+◌, ◌*◌, ◌/◌, ◌<◌, ◌≤◌, ◌++◌, length, take, drop, sym, refl, ap, ◌∙◌, arith, rules}
+use Rattle.std.proofs.Common.{◌≡◌, ◌*◌, ◌/◌, ◌<◌, ◌++◌, take, drop, sym, refl, ap, ◌∙◌, arith}
 use Rattle.std.specs.Vec.{with_items}
 use Rattle.std.proofs.lemmas.List.{with_items_is}
 use Rattle.std.proofs.lemmas.Bool.{cond-false, leb-true, leb-false}
@@ -12,15 +12,15 @@ use Rattle.frame.proofs.trunk.carrying.TrunkLink.send.Goals.{After-write}
 pub write-requires : goal.write-requires
 write-requires c =
     let s = c.args.self.now in
-    let room = leb-false (s.bytes.len / 15) s.count (sym c.if-is-full.ensures) in
+    let room = leb-false (s.bytes.len / 15) s.count (sym c.if-is_full.ensures) in
     let place = c.end-end.ensures in
     let within : c.end-end.result < s.bytes.len / 15 = grind (arith, nat_tests) in
-    omega (arith, c.deref-mut.ensures.len)
+    omega (arith, c.deref_mut.ensures.len)
 
-pub returns-then-is-full : goal.returns-then-is-full
-returns-then-is-full c =
+pub returns-then-is_full : goal.returns-then-is_full
+returns-then-is_full c =
     let s = c.args.self.now in
-    let none = leb-true (s.bytes.len / 15) s.count (sym c.if-is-full.ensures) in
+    let none = leb-true (s.bytes.len / 15) s.count (sym c.if-is_full.ensures) in
     let both = refused (s.bytes.len / 15) _ s.head s.count c.args.message none in
     record { answer = both.0; list = both.1; room = refl; bytes = rw (is-full (s.bytes.len / 15) (message_at s.bytes.items) s.head s.count none); rest = refl }
 
@@ -30,16 +30,16 @@ items c =
     let at = 15 * c.end-end.result in
     with_items_is s.bytes c.write.new.bytes (omega arith)
     ∙ c.write.ensures
-    ∙ (λ j. take at (c.deref-mut.ensures.value j) ++ (c.frame.ensures.value j ++ drop 15 (drop at (c.deref-mut.ensures.value j))))
+    ∙ (λ j. take at (c.deref_mut.ensures.value j) ++ (c.frame.ensures.value j ++ drop 15 (drop at (c.deref_mut.ensures.value j))))
 
 left : (c : After-write) → c.args.self.now.count < c.args.self.now.bytes.len / 15
-left c = leb-false _ _ (sym c.if-is-full.ensures)
+left c = leb-false _ _ (sym c.if-is_full.ensures)
 
-pub invariant-of-self : goal.invariant-of-self
-invariant-of-self c =
+pub invariant_of-self-clause-whole : goal.invariant_of-self-clause-whole
+invariant_of-self-clause-whole c =
     let s = c.args.self.now in
-    let at = (goal.at.invariant-of-self c).After-write in
-    (search rules, (search rules, (search rules, (rw (items at) (whole_sent _ _ _ _ _ c.args.message (omega arith) s.within (left at) c.end-end.ensures s.whole), tt))))
+    let at = (goal.at.invariant_of-self-clause-whole c).After-write in
+    rw (items at) (whole_sent _ _ _ _ _ c.args.message (omega arith) s.within (left at) c.end-end.ensures s.whole)
 
 pub returns : goal.returns
 returns c =
