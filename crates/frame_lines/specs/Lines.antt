@@ -7,7 +7,6 @@ use Rattle.fields.specs.Refusals.{refusal_number}
 use Rattle.link.specs.declared.message.Kind.{Kind}
 use Rattle.link.specs.declared.message.Kind.TheVariants.{Monitor, Suspend, Resume, Setup, Close, Yes, No, Free, BusyAgain, Connected, Failed, LetGo}
 use Rattle.link.specs.declared.message.Message.{Message}
-use Rattle.link.specs.declared.message.PlainMessage.{PlainMessage}
 use Rattle.link.specs.Messages.{plain_of, message_of}
 use Rattle.frame.specs.Frames.{listed, unlisted, frame_of, read_of}
 use Rattle.text.specs.Hex.{hex_bytes, hex_of}
