@@ -55,7 +55,7 @@ mod tests {
             Err(found) => {
                 assert_eq!(rt; found, fault);
                 Ok(())
-            },
+            }
         }
     }
 
