@@ -1,0 +1,6 @@
+// What a message does to a request: decided before anything is changed.
+#![tactic(auto)]
+
+pub mod plans;
+
+pub use plans::{Change, Plan, plan_at};
