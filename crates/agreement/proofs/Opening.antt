@@ -124,7 +124,7 @@ module _ (s t : State) (c : Opens s t) (g : Retains s) (h : Sound s) where
           let l : length (gather (caller_at x) (A ++ D)) ≤ 5 = rw (← lives-was) (h.five x) in
           simp (gather-++, q) (rw gather-++ at l)
 
-  -- the called party is the one last_retained retained
+  -- the called party is the one last retained
   opened-is : opened_in t ≡ o ∷ opened_in s
   opened-is = rw (c.history, ← (retained-last s g c.r.key.caller c.call c.before c.entry c.after c.r.key.called c.retained c.runs))
 

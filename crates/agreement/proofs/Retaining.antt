@@ -1,4 +1,4 @@
--- A retained call that runs is to the called party last_retained retained under its call identifier.
+-- A retained call that runs is to the called party last retained under its call identifier.
 use Rattle.std.proofs.Common.{◌≡◌, ℕ, ◌≤◌, Bool, true, false, ◌&&◌, eqb, ltb, ◌⊎◌, List, [], ◌∷◌, ◌++◌, length, sym, refl, ap, ◌∙◌, ap₂, subst₂, inl, inr, ⊎_elim, append-nil, arith}
 use Rattle.std.proofs.lemmas.Bool.{and_parts, and_right, ltb-true, lt-ltb, eqb-true}
 use Rattle.agreement.specs.Gather.{gather}

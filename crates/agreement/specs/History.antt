@@ -11,7 +11,7 @@ pub data Event : Type 0 where
   ended : (number : ℕ) → Event
   other : Event
 
--- the called party that a caller last_retained retained under a call identifier
+-- the called party that a caller last retained under a call identifier
 abbrev pub last_retained : ℕ → ℕ → List Event → ℕ
 last_retained c d [] = 0
 last_retained c d (retained c' n d' ∷ h) = cond (c' == c && d' == d) n (last_retained c d h)

@@ -126,7 +126,7 @@ pub record Shifted (s t : State) (m : Stage) (ms : List Stage) (hs ks : List Sor
   pub back : t.back ≡ s.back ++ sent
   pub rest : Untouched s t
 
--- a message out of the sort κ, whose monitor doesn't stand, is taken; what is stored, if anything, stands last_retained
+-- a message out of the sort κ, whose monitor doesn't stand, is taken; what is stored, if anything, stands last
 pub record Stored (s t : State) (κ : Sort) (ms : List Stage) (ks : List Sort) : Type 0 where
   pub x : Message
   pub sort : x.sort ≡ κ

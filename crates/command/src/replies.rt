@@ -24,8 +24,5 @@ pub fn write_reply(out: &mut String, reply: Reply) -> Result<(), AllocError>
         identifier,
         cause,
     } = reply;
-    match writeln!(out, "{number} {notice} {request} {identifier} {cause}") {
-        Ok(()) => Ok(()),
-        Err(_) => Err(AllocError),
-    }
+    writeln!(out, "{number} {notice} {request} {identifier} {cause}")
 }
