@@ -1,9 +1,10 @@
 -- The invariant holds at the start and after each call, and it says that the offices agree.
 use Rattle.std.proofs.Common.{◌≡◌, ℕ, ◌+◌, ◌≤◌, Bool, true, false, List, [], ◌∷◌, ◌++◌, length, sym, refl, ap, ◌∙◌, subst, append_assoc, arith, length-append}
 use Rattle.requests.specs.Records.{is_live}
+use Rattle.std.proofs.lemmas.List.Concat.{flat_map-append}
 use Rattle.agreement.specs.History.{Event}
 use Rattle.agreement.proofs.Retaining.{Retains, gone, retention}
-use Rattle.agreement.specs.Gather.{gather}
+use Rattle.std.specs.List.{flat_map}
 use Rattle.agreement.specs.Agreement.{never, Agreed, Owned, Kept}
 use Rattle.agreement.specs.Key.{Key, same}
 use Rattle.agreement.specs.State.{State, opening, lives, live_one, owner_at, phase_at, stage_at, sort_at, number_at, key_at, only_if}
@@ -11,7 +12,7 @@ use Rattle.agreement.specs.Shapes.{Shape, Idle, idle, request, join, accept, fin
 use Rattle.agreement.specs.Records.{Request}
 use Rattle.agreement.proofs.Moves.{serve-stays, connected-stays, busy-stays, failed-stays, stand-stays, owned-of, calm_of, live-phase, nothing-allowed}
 use Rattle.agreement.proofs.Keys.{same_refl, one-long, count-one}
-use Rattle.agreement.proofs.Gathers.{gather-++, gather-gather, gather-length, gather_ext, not-cons}
+use Rattle.agreement.proofs.Pieces.{flat_map-flat_map, flat_map-length, flat_map_ext, not-cons}
 use Rattle.agreement.proofs.Parts.{local-of}
 use Rattle.agreement.proofs.Order.{end, asc-two}
 use Rattle.agreement.proofs.Sound.{Sound, num, monitor-one, asked-one}
@@ -33,14 +34,14 @@ idle-sound s t e c h = record {
 }
 
 -- what is at one place of a list is given at least once
-present : {A B : Type 0} (f : A → List B) (pre : List A) (x : A) (post : List A) (p : B) → f x ≡ p ∷ [] → 1 ≤ length (gather f (pre ++ (x ∷ post)))
-present f pre x post p e = simp (gather-++, length-append, e) (omega arith)
+present : {A B : Type 0} (f : A → List B) (pre : List A) (x : A) (post : List A) (p : B) → f x ≡ p ∷ [] → 1 ≤ length (flat_map f (pre ++ (x ∷ post)))
+present f pre x post p e = simp (flat_map-append, length-append, e) (omega arith)
 
 -- there is no such message
 lost-none : (s t : State) → Lost s t → Sound s → ⊥
 lost-none s t c h =
     let k = c.x.key in
-    let l : 1 ≤ length (gather (sort_at k) s.back) = rw c.back (present (sort_at k) [] c.x t.back c.x.sort (rw (same_refl k))) in
+    let l : 1 ≤ length (flat_map (sort_at k) s.back) = rw c.back (present (sort_at k) [] c.x t.back c.x.sort (rw (same_refl k))) in
     let n = owned-of (local-of s k) (omega arith) (h.rows k) in
     let z = ap length c.none in
     omega arith
@@ -93,7 +94,7 @@ one-is (x ∷ []) e = (x, refl)
 one-is (x ∷ (y ∷ xs)) e = absurd (omega arith)
 
 -- of the live requests, those of a key
-pick : (a b : Bool) {A B : Type 0} (x : A) (f : A → List A) (y : B) (g : B → List B) → f x ≡ only_if a x → g y ≡ only_if b y → length (gather f (only_if b x)) ≡ length (gather g (only_if a y))
+pick : (a b : Bool) {A B : Type 0} (x : A) (f : A → List A) (y : B) (g : B → List B) → f x ≡ only_if a x → g y ≡ only_if b y → length (flat_map f (only_if b x)) ≡ length (flat_map g (only_if a y))
 pick true true x f y g e d = rw (e, d)
 pick true false x f y g e d = rw d
 pick false true x f y g e d = rw e
@@ -102,25 +103,25 @@ pick false false x f y g e d = refl
 abbrev number-one : Request → List ℕ
 number-one r = r.number ∷ []
 
-via : (b : Bool) (r : Request) → only_if b r.number ≡ gather number-one (only_if b r)
+via : (b : Bool) (r : Request) → only_if b r.number ≡ flat_map number-one (only_if b r)
 via true r = refl
 via false r = refl
 
 module _ (s : State) (h : Sound s) where
-  owner : (k : Key) → 1 ≤ length (gather (sort_at k) s.out) + length (gather (stage_at k) s.monitors) + length (gather (sort_at k) s.back) → Owned s k
-  owner k l = one-is (gather (owner_at k) s.table) (gather-length (owner_at k) (phase_at k) (λ r. one-long (same r.key k) r r.phase) s.table ∙ owned-of (local-of s k) l (h.rows k))
+  owner : (k : Key) → 1 ≤ length (flat_map (sort_at k) s.out) + length (flat_map (stage_at k) s.monitors) + length (flat_map (sort_at k) s.back) → Owned s k
+  owner k l = one-is (flat_map (owner_at k) s.table) (flat_map-length (owner_at k) (phase_at k) (λ r. one-long (same r.key k) r r.phase) s.table ∙ owned-of (local-of s k) l (h.rows k))
 
-  live_at : (k : Key) → length (gather live-phase (gather (phase_at k) s.table)) ≡ length (gather (key_at k) (lives s))
+  live_at : (k : Key) → length (flat_map live-phase (flat_map (phase_at k) s.table)) ≡ length (flat_map (key_at k) (lives s))
   live_at k =
-      ap length (gather-gather (phase_at k) live-phase s.table)
-      ∙ gather-length (λ r. gather live-phase (phase_at k r)) (λ r. gather (key_at k) (live_one r)) (λ r. pick (is_live r.phase) (same r.key k) r.phase live-phase (opening r) (key_at k) refl refl) s.table
-      ∙ ap length (sym (gather-gather live_one (key_at k) s.table))
+      ap length (flat_map-flat_map (phase_at k) live-phase s.table)
+      ∙ flat_map-length (λ r. flat_map live-phase (phase_at k r)) (λ r. flat_map (key_at k) (live_one r)) (λ r. pick (is_live r.phase) (same r.key k) r.phase live-phase (opening r) (key_at k) refl refl) s.table
+      ∙ ap length (sym (flat_map-flat_map live_one (key_at k) s.table))
 
-  number : (k : Key) (r : Request) → gather (owner_at k) s.table ≡ r ∷ [] → num s k ≡ r.number ∷ []
+  number : (k : Key) (r : Request) → flat_map (owner_at k) s.table ≡ r ∷ [] → num s k ≡ r.number ∷ []
   number k r e =
-      gather_ext (number_at k) (λ q. gather number-one (owner_at k q)) (λ q. via (same q.key k) q) s.table
-      ∙ sym (gather-gather (owner_at k) number-one s.table)
-      ∙ ap (gather number-one) e
+      flat_map_ext (number_at k) (λ q. flat_map number-one (owner_at k q)) (λ q. via (same q.key k) q) s.table
+      ∙ sym (flat_map-flat_map (owner_at k) number-one s.table)
+      ∙ ap (flat_map number-one) e
 
   pub agreed : Agreed s
   agreed = record {
@@ -132,7 +133,7 @@ module _ (s : State) (h : Sound s) where
     one_each = λ c i. rw (h.held c i) (count-one (s.marked c i));
     five = h.five;
     settled = λ o b k. (calm_of _ _ (rw (o, b) at (h.rows k)) ∙ live_at k, few-stages s k (h.rows k));
-    in_order = λ pre w mid v post e q r i j. asc-two (gather monitor-one pre) w.key (gather monitor-one mid) v.key (gather monitor-one post ++ gather asked-one s.out) q.number r.number (number w.key q i) (number v.key r j) (simp (gather-++, append_assoc) at (rw e at h.order));
+    in_order = λ pre w mid v post e q r i j. asc-two (flat_map monitor-one pre) w.key (flat_map monitor-one mid) v.key (flat_map monitor-one post ++ flat_map asked-one s.out) q.number r.number (number w.key q i) (number v.key r j) (simp (flat_map-append, append_assoc) at (rw e at h.order));
   }
 
 pub kept : Kept

@@ -1,8 +1,8 @@
 -- A key is the same as another exactly when the test says so; what a record gives at its own key and at others.
 use Rattle.std.proofs.Common.{◌≡◌, ℕ, ◌+◌, ◌≤◌, Bool, true, false, not, ◌&&◌, ◌||◌, eqb, List, [], ◌∷◌, length, refl, ap, subst, arith}
 use Rattle.std.proofs.lemmas.Bool.Decides.{nat_tests}
-use Rattle.agreement.specs.Gather.{gather}
-use Rattle.agreement.proofs.Gathers.{not-cons}
+use Rattle.std.specs.List.{flat_map}
+use Rattle.agreement.proofs.Pieces.{not-cons}
 use Rattle.agreement.specs.Key.{Key, same}
 use Rattle.agreement.specs.State.{only_if}
 
@@ -35,9 +35,9 @@ pub only_none : {B : Type 0} (b : Bool) (x : B) → only_if b x ≡ [] → b ≡
 only_none true x e = absurd (not-cons x [] e)
 only_none false x e = refl
 
-pub gather-only : {A B : Type 0} (g : A → List B) (b : Bool) (x : A) → g x ≡ [] → gather g (only_if b x) ≡ []
-gather-only g true x e = rw e
-gather-only g false x e = refl
+pub flat_map-only : {A B : Type 0} (g : A → List B) (b : Bool) (x : A) → g x ≡ [] → flat_map g (only_if b x) ≡ []
+flat_map-only g true x e = rw e
+flat_map-only g false x e = refl
 
 pub one-long : {A B : Type 0} (b : Bool) (x : A) (y : B) → length (only_if b x) ≡ length (only_if b y)
 one-long true x y = refl

@@ -1,6 +1,6 @@
 -- What was opened, is live and has ended, number by number.
 use Rattle.std.proofs.Common.{◌≡◌, ℕ, List, [], ◌∷◌, ◌++◌, length, sym, ap, subst₂, arith}
-use Rattle.agreement.proofs.Gathers.{append-none, not-cons, alone}
+use Rattle.agreement.proofs.Pieces.{append-none, not-cons, alone}
 use Rattle.agreement.specs.Key.{Opening}
 use Rattle.agreement.specs.Agreement.{Line, never, running, over}
 

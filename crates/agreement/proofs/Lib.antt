@@ -1,5 +1,6 @@
 pub mod Agree
-pub mod Gathers
+pub mod Codes
+pub mod Pieces
 pub mod Keys
 pub mod Ledger
 pub mod Lives

@@ -1,8 +1,9 @@
 -- What one request, its messages in the two links and its monitor can be together: a table of 35 rows, and the
 -- steps that stay in it, each by one test that antt computes over the rows.
-use Rattle.std.proofs.Common.{◌≡◌, ℕ, zero, suc, Bool, true, false, ◌&&◌, ◌||◌, eqb, ◌⊎◌, List, [], ◌∷◌, ◌++◌, get_or, sym, refl, ap, ◌∙◌, subst, ap₂, inl, inr}
+use Rattle.std.proofs.Common.{◌≡◌, ℕ, zero, suc, Bool, true, false, ◌&&◌, eqb, ◌⊎◌, List, [], ◌∷◌, ◌++◌, get_or, sym, refl, ap, ◌∙◌, subst, ap₂, inl, inr}
+use Rattle.std.specs.List.{list_all, list_any}
 use Rattle.std.proofs.lemmas.Bool.{eqb-true, false≢true, and_parts, or_cases}
-use Rattle.agreement.specs.Codes.{phase_code, stage_code, sort_code, phase_test, stage_test, sort_test}
+use Rattle.agreement.proofs.Codes.{phase_code, stage_code, sort_code, phase_test, stage_test, sort_test}
 use Rattle.agreement.specs.Records.{Sort, MONITOR, SUSPEND, RESUME, SETUP, CLOSE, YES, NO, FREE, BUSY-AGAIN, CONNECTED, FAILED, LET-GO}
 use Rattle.requests.specs.declared.records.Phase.{Phase}
 use Rattle.requests.specs.declared.records.Phase.TheVariants.{Asked, Invoked, Recalled, Parked, SettingUp, Closing}
@@ -132,52 +133,40 @@ rows =
     (closing (([], [], []) ∷ [])
     (letting-go ([] ∷ (YES ∷ []) ∷ (NO ∷ []) ∷ (FREE ∷ []) ∷ (YES ∷ FREE ∷ []) ∷ []) []))))))))))
 
-abbrev among : Local → List Local → Bool
-among x [] = false
-among x (y ∷ ys) = local-test x y || among x ys
-
 abbrev pub allowed : Local → Bool
-allowed x = among x rows
+allowed x = list_any (local-test x) rows
 
 unfoldable pub Allowed : Local → Type 0
 Allowed x = allowed x ≡ true
 
-abbrev pub every : (Local → Bool) → List Local → Bool
-every f [] = true
-every f (y ∷ ys) = f y && every f ys
-
-every-at : (f : Local → Bool) (ys : List Local) → every f ys ≡ true → (x : Local) → among x ys ≡ true → f x ≡ true
+every-at : (f : Local → Bool) (ys : List Local) → list_all f ys ≡ true → (x : Local) → list_any (local-test x) ys ≡ true → f x ≡ true
 every-at f [] e x m = absurd (false≢true m)
-every-at f (y ∷ ys) e x m = step (or_cases (local-test x y) (among x ys) m) (λ k. every-at f ys p.1 x k)
+every-at f (y ∷ ys) e x m = step (or_cases (local-test x y) (list_any (local-test x) ys) m) (λ k. every-at f ys p.1 x k)
   where
-    p : (f y ≡ true) × (every f ys ≡ true)
-    p = and_parts (f y) (every f ys) e
+    p : (f y ≡ true) × (list_all f ys ≡ true)
+    p = and_parts (f y) (list_all f ys) e
 
-    step : (local-test x y ≡ true) ⊎ (among x ys ≡ true) → (among x ys ≡ true → f x ≡ true) → f x ≡ true
+    step : (local-test x y ≡ true) ⊎ (list_any (local-test x) ys ≡ true) → (list_any (local-test x) ys ≡ true → f x ≡ true) → f x ≡ true
     step (inl s) k = subst (λ z. f z ≡ true) (sym (local-sound x y s)) p.0
     step (inr s) k = k s
 
 -- a test that every row passes is passed by whatever is allowed
-pub by_rows : (f : Local → Bool) → every f rows ≡ true → (x : Local) → Allowed x → f x ≡ true
+pub by_rows : (f : Local → Bool) → list_all f rows ≡ true → (x : Local) → Allowed x → f x ≡ true
 unfolding Allowed
 by_rows f e x m = every-at f rows e x m
 
 -- a test that all phases and sorts pass
-abbrev pub all : {A : Type 0} → (A → Bool) → List A → Bool
-all f [] = true
-all f (x ∷ xs) = f x && all f xs
-
-all-at : {A : Type 0} (f : A → Bool) (d : A) (xs : List A) → f d ≡ true → all f xs ≡ true → (n : ℕ) → f (get_or xs n d) ≡ true
+all-at : {A : Type 0} (f : A → Bool) (d : A) (xs : List A) → f d ≡ true → list_all f xs ≡ true → (n : ℕ) → f (get_or xs n d) ≡ true
 all-at f d [] e h n = e
-all-at f d (x ∷ xs) e h zero = (and_parts (f x) (all f xs) h).0
-all-at f d (x ∷ xs) e h (suc n) = all-at f d xs e (and_parts (f x) (all f xs) h).1 n
+all-at f d (x ∷ xs) e h zero = (and_parts (f x) (list_all f xs) h).0
+all-at f d (x ∷ xs) e h (suc n) = all-at f d xs e (and_parts (f x) (list_all f xs) h).1 n
 
-pub by-phases : (f : Phase → Bool) → all f phases ≡ true → (p : Phase) → f p ≡ true
+pub by-phases : (f : Phase → Bool) → list_all f phases ≡ true → (p : Phase) → f p ≡ true
 by-phases f h p = subst (λ q. f q ≡ true) (phase-back p) (all-at f Asked phases (and_parts (f Asked) _ h).0 h (phase_code p))
 
-pub by-sorts : (f : Sort → Bool) → all f sorts ≡ true → (k : Sort) → f k ≡ true
+pub by-sorts : (f : Sort → Bool) → list_all f sorts ≡ true → (k : Sort) → f k ≡ true
 by-sorts f h k = subst (λ q. f q ≡ true) (sort-back k) (all-at f MONITOR sorts (and_parts (f MONITOR) _ h).0 h (sort_code k))
 
 -- and both together
-pub by_both : (f : Phase → Sort → Bool) → all (λ p. all (f p) sorts) phases ≡ true → (p : Phase) (k : Sort) → f p k ≡ true
-by_both f h p k = by-sorts (f p) (by-phases (λ q. all (f q) sorts) h p) k
+pub by_both : (f : Phase → Sort → Bool) → list_all (λ p. list_all (f p) sorts) phases ≡ true → (p : Phase) (k : Sort) → f p k ≡ true
+by_both f h p k = by-sorts (f p) (by-phases (λ q. list_all (f q) sorts) h p) k

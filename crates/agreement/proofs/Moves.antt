@@ -7,9 +7,9 @@ use Rattle.requests.specs.declared.records.Phase.{Phase}
 use Rattle.requests.specs.declared.records.Phase.TheVariants.{Asked, Invoked, Recalled, Parked, SettingUp, Closing}
 use Rattle.terminating.specs.declared.office.Stage.{Stage}
 use Rattle.terminating.specs.declared.office.Stage.TheVariants.{Waiting, Offered, Ringing}
-use Rattle.agreement.specs.Gather.{gather}
+use Rattle.std.specs.List.{flat_map}
 use Rattle.agreement.specs.State.{only_if}
-use Rattle.agreement.specs.Codes.{phase_test, stage_test}
+use Rattle.agreement.proofs.Codes.{phase_test, stage_test}
 use Rattle.agreement.specs.Shapes.{heard, stood}
 use Rattle.agreement.proofs.Local.{Local, local, Allowed, allowed, by_rows}
 
@@ -111,10 +111,10 @@ live-phase p = only_if (is_live p) p
 
 -- where nothing is under way, the monitor stands exactly for a live request
 abbrev calm : Local → Bool
-calm x = not (empty x.outs && empty x.backs) || eqb (length x.stages) (length (gather live-phase x.phases))
+calm x = not (empty x.outs && empty x.backs) || eqb (length x.stages) (length (flat_map live-phase x.phases))
 
-pub calm_of : (p : List Phase) (m : List Stage) → Allowed (local p [] m []) → length m ≡ length (gather live-phase p)
-calm_of p m h = eqb-true (length m) (length (gather live-phase p)) (by_rows calm refl (local p [] m []) h)
+pub calm_of : (p : List Phase) (m : List Stage) → Allowed (local p [] m []) → length m ≡ length (flat_map live-phase p)
+calm_of p m h = eqb-true (length m) (length (flat_map live-phase p)) (by_rows calm refl (local p [] m []) h)
 
 pub open_stays : (o : List Sort) (m : List Stage) (b : List Sort) → Allowed (local [] o m b) → Allowed (local (Asked ∷ []) (o ++ (MONITOR ∷ [])) m b)
 unfolding Allowed

@@ -1,7 +1,7 @@
 -- Numbers that ascend along a list of keys, where each key has one number.
 use Rattle.std.proofs.Common.{◌≡◌, ℕ, suc, ◌<◌, ◌≤◌, Bool, true, false, List, [], ◌∷◌, ◌++◌, sym, refl, ◌∙◌, arith}
-use Rattle.agreement.specs.Gather.{gather}
-use Rattle.agreement.proofs.Gathers.{append-none, not-cons}
+use Rattle.std.specs.List.{flat_map}
+use Rattle.agreement.proofs.Pieces.{append-none, not-cons}
 use Rattle.agreement.proofs.Keys.{same-flip}
 use Rattle.agreement.specs.Key.{Key, same}
 use Rattle.agreement.specs.State.{only_if}
@@ -33,12 +33,12 @@ agree-all f g h (k ∷ ks) = (h k, agree-all f g h ks)
 abbrev pub same_at : Key → Key → List Key
 same_at k₀ k = only_if (same k k₀) k
 
-pub agree-apart : (f g : Numbers) (k₀ : Key) → ((k : Key) → same k₀ k ≡ false → f k ≡ g k) → (ks : List Key) → gather (same_at k₀) ks ≡ [] → Agree f g ks
+pub agree-apart : (f g : Numbers) (k₀ : Key) → ((k : Key) → same k₀ k ≡ false → f k ≡ g k) → (ks : List Key) → flat_map (same_at k₀) ks ≡ [] → Agree f g ks
 agree-apart f g k₀ h [] e = tt
 agree-apart f g k₀ h (k ∷ ks) e = go (same k k₀) refl (agree-apart f g k₀ h ks p.1)
   where
-    p : (same_at k₀ k ≡ []) × (gather (same_at k₀) ks ≡ [])
-    p = append-none (same_at k₀ k) (gather (same_at k₀) ks) e
+    p : (same_at k₀ k ≡ []) × (flat_map (same_at k₀) ks ≡ [])
+    p = append-none (same_at k₀ k) (flat_map (same_at k₀) ks) e
 
     go : (b : Bool) → same k k₀ ≡ b → Agree f g ks → Agree f g (k ∷ ks)
     go true t r = absurd (not-cons k [] (rw t at p.0))

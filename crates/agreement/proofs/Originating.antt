@@ -2,16 +2,16 @@
 use Rattle.std.proofs.Common.{◌≡◌, Bool, true, false, not, ◌||◌, List, [], ◌∷◌, refl, append-nil}
 use Rattle.std.proofs.lemmas.Bool.{and_parts, false≢true, not-true}
 use Rattle.requests.specs.Records.{can_end, is_live}
-use Rattle.agreement.specs.Gather.{gather}
-use Rattle.agreement.specs.Codes.{sort_test}
+use Rattle.std.specs.List.{flat_map}
+use Rattle.std.specs.List.{list_all}
 use Rattle.agreement.specs.Key.{Key}
-use Rattle.agreement.specs.State.{asked_key}
+use Rattle.agreement.specs.State.{is_monitor, asked_key}
 use Rattle.agreement.specs.Shapes.{any_live, heard}
-use Rattle.agreement.specs.Records.{Sort, MONITOR, RESUME, SETUP, CLOSE}
+use Rattle.agreement.specs.Records.{Sort, RESUME, SETUP, CLOSE}
 use Rattle.requests.specs.declared.records.Phase.{Phase}
 use Rattle.requests.specs.declared.records.Phase.TheVariants.{Invoked, Recalled, Parked, SettingUp, Closing}
-use Rattle.agreement.proofs.Local.{all, by_both}
-use Rattle.agreement.proofs.Gathers.{not-cons}
+use Rattle.agreement.proofs.Local.{by_both}
+use Rattle.agreement.proofs.Pieces.{not-cons}
 use Rattle.agreement.proofs.Moves.{accept-stays, wake-stays, end_stays, hear-stays, hear-quiet}
 use Rattle.agreement.proofs.Turns.{Fair}
 
@@ -42,7 +42,7 @@ abbrev implies : Bool → Bool → Bool
 implies a b = not a || b
 
 abbrev plainly : List Sort → Bool
-plainly = all (λ k. not (sort_test k MONITOR))
+plainly = list_all (λ k. not (is_monitor k))
 
 heard-rise : (free : Bool) (p : Phase) (k : Sort) → implies (any_live (heard free p k).left) (is_live p) ≡ true
 heard-rise true = by_both (λ p k. implies (any_live (heard true p k).left) (is_live p)) refl
@@ -52,11 +52,11 @@ heard-plain : (free : Bool) (p : Phase) (k : Sort) → plainly (heard free p k).
 heard-plain true = by_both (λ p k. plainly (heard true p k).sends) refl
 heard-plain false = by_both (λ p k. plainly (heard false p k).sends) refl
 
-plain-gives : (k : Key) (ks : List Sort) → plainly ks ≡ true → gather (λ κ. asked_key κ k) ks ≡ []
+plain-gives : (k : Key) (ks : List Sort) → plainly ks ≡ true → flat_map (λ κ. asked_key κ k) ks ≡ []
 plain-gives k [] e = refl
 plain-gives k (κ ∷ ks) e =
-    let p = and_parts (not (sort_test κ MONITOR)) (plainly ks) e in
-    rw (not-true (sort_test κ MONITOR) p.0) (plain-gives k ks p.1)
+    let p = and_parts (not (is_monitor κ)) (plainly ks) e in
+    rw (not-true (is_monitor κ) p.0) (plain-gives k ks p.1)
 
 pub hear-fair : (free : Bool) (p : Phase) (κ : Sort) → Fair p (heard free p κ).left (κ ∷ []) (heard free p κ).sends
 hear-fair free p κ = record {

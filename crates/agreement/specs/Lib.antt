@@ -1,6 +1,4 @@
 pub mod Agreement
-pub mod Codes
-pub mod Gather
 pub mod History
 pub mod Key
 pub mod Records

@@ -1,8 +1,7 @@
 -- What each call does to the two offices and the two links.
 use Rattle.std.specs.Prelude.{◌≡◌, ℕ, suc, ◌<◌, ◌≤◌, Bool, true, false, cond, not, ◌&&◌, ◌||◌, List, [], ◌∷◌, ◌++◌, length, ◌==◌}
 use Rattle.requests.specs.Records.{can_end, is_live}
-use Rattle.agreement.specs.Codes.{phase_test, stage_test, sort_test}
-use Rattle.agreement.specs.Gather.{gather}
+use Rattle.std.specs.List.{flat_map}
 use Rattle.agreement.specs.Key.{Key}
 use Rattle.agreement.specs.State.{State, opening, lives, phase_at, stage_at, caller_at, running_at}
 use Rattle.agreement.specs.History.{Event, retained, opened, ended, other, last_retained, openings, endings}
@@ -22,28 +21,25 @@ does a s = record { left = a; sends = s }
 
 -- the originating hear, by phase and sort together: the caller is free or not; all else is dropped
 abbrev pub heard : Bool → Phase → Sort → Reaction Phase
-heard free p k =
-    cond (phase_test p Asked && sort_test k YES) (does (Invoked ∷ []) [])
-    (cond (phase_test p Asked && sort_test k NO) (does (Closing ∷ []) (CLOSE ∷ []))
-    (cond (phase_test p Invoked && sort_test k FREE) (cond free (does (Recalled ∷ []) []) (does (Parked ∷ []) (SUSPEND ∷ [])))
-    (cond (phase_test p SettingUp && sort_test k BUSY-AGAIN) (does (Invoked ∷ []) [])
-    (cond (phase_test p SettingUp && sort_test k CONNECTED) (does (Closing ∷ []) (CLOSE ∷ []))
-    (cond (phase_test p SettingUp && sort_test k FAILED) (does (Closing ∷ []) (CLOSE ∷ []))
-    (cond (phase_test p Closing && sort_test k LET-GO) (does [] [])
-    (does (p ∷ []) [])))))))
+heard free Asked YES = does (Invoked ∷ []) []
+heard free Asked NO = does (Closing ∷ []) (CLOSE ∷ [])
+heard free Invoked FREE = cond free (does (Recalled ∷ []) []) (does (Parked ∷ []) (SUSPEND ∷ []))
+heard free SettingUp BUSY-AGAIN = does (Invoked ∷ []) []
+heard free SettingUp CONNECTED = does (Closing ∷ []) (CLOSE ∷ [])
+heard free SettingUp FAILED = does (Closing ∷ []) (CLOSE ∷ [])
+heard free Closing LET-GO = does [] []
+heard free p _ = does (p ∷ []) []
 
 -- the terminating hear: `ok` says that a MONITOR is stored and answered YES, or that the line of a SETUP is free
 abbrev pub stood : Bool → List Stage → Sort → Reaction Stage
-stood ok [] k =
-    cond (sort_test k MONITOR) (cond ok (does (Waiting ∷ []) (YES ∷ [])) (does [] (NO ∷ [])))
-    (cond (sort_test k CLOSE) (does [] (LET-GO ∷ []))
-    (does [] []))
-stood ok (m ∷ ms) k =
-    cond (stage_test m Offered && sort_test k SUSPEND) (does (Suspended ∷ []) [])
-    (cond (stage_test m Suspended && sort_test k RESUME) (does (Waiting ∷ []) [])
-    (cond (stage_test m Offered && sort_test k SETUP) (cond ok (does (Ringing ∷ []) []) (does (Waiting ∷ []) (BUSY-AGAIN ∷ [])))
-    (cond (sort_test k CLOSE) (does [] (LET-GO ∷ []))
-    (does (m ∷ []) []))))
+stood ok [] MONITOR = cond ok (does (Waiting ∷ []) (YES ∷ [])) (does [] (NO ∷ []))
+stood ok [] CLOSE = does [] (LET-GO ∷ [])
+stood ok [] _ = does [] []
+stood ok (Offered ∷ ms) SUSPEND = does (Suspended ∷ []) []
+stood ok (Suspended ∷ ms) RESUME = does (Waiting ∷ []) []
+stood ok (Offered ∷ ms) SETUP = cond ok (does (Ringing ∷ []) []) (does (Waiting ∷ []) (BUSY-AGAIN ∷ []))
+stood ok (m ∷ ms) CLOSE = does [] (LET-GO ∷ [])
+stood ok (m ∷ ms) _ = does (m ∷ []) []
 
 -- messages about k, of these sorts
 pub data Sent (k : Key) : List Sort → List Message → Type 0 where
@@ -130,7 +126,7 @@ pub record Shifted (s t : State) (m : Stage) (ms : List Stage) (hs ks : List Sor
 pub record Stored (s t : State) (κ : Sort) (ms : List Stage) (ks : List Sort) : Type 0 where
   pub x : Message
   pub sort : x.sort ≡ κ
-  pub none : gather (stage_at x.key) s.monitors ≡ []
+  pub none : flat_map (stage_at x.key) s.monitors ≡ []
   pub out : s.out ≡ x ∷ t.out
   pub ws : List Monitor
   pub left : Stays x.key ws ms
@@ -150,7 +146,7 @@ pub record Opens (s t : State) : Type 0 where
   pub phase : r.phase ≡ Asked
   pub number : r.number ≡ s.next
   pub unheld : s.marked r.key.caller r.key.identifier ≡ false
-  pub room : length (gather (caller_at r.key.caller) (lives s)) < 5
+  pub room : length (flat_map (caller_at r.key.caller) (lives s)) < 5
   pub sent : List Message
   pub sent_as : Sent r.key (MONITOR ∷ []) sent
   pub out : t.out ≡ s.out ++ sent
@@ -189,14 +185,14 @@ pub data Retention (s t : State) : Type 0 where
       → running_at s.now e'.caller e'.call e ≡ n ∷ [] → t.history ≡ retained e'.caller e'.called e'.call ∷ s.history → Retention s t
   -- none runs, and an entry is stored, in a new place or in that of one that doesn't run
   stores : (pre old : List Retained) (e' : Retained) (post : List Retained) → s.retained ≡ pre ++ (old ++ post) → t.retained ≡ pre ++ (e' ∷ post) → t.now ≡ s.now
-      → ((c d : ℕ) → gather (running_at s.now c d) old ≡ []) → gather (running_at s.now e'.caller e'.call) s.retained ≡ []
+      → ((c d : ℕ) → flat_map (running_at s.now c d) old ≡ []) → flat_map (running_at s.now e'.caller e'.call) s.retained ≡ []
       → t.history ≡ retained e'.caller e'.called e'.call ∷ s.history → Retention s t
 
 -- a message back that belongs to no request is dropped
 pub record Lost (s t : State) : Type 0 where
   pub x : Message
   pub back : s.back ≡ x ∷ t.back
-  pub none : gather (phase_at x.key) s.table ≡ []
+  pub none : flat_map (phase_at x.key) s.table ≡ []
 
 pub data Shape (s t : State) : Type 0 where
   -- retain, list, caller, tick and line, and every call that is refused

@@ -1,8 +1,7 @@
 -- The two offices' tables and the two links, as lists; what belongs to one request.
 use Rattle.std.specs.Prelude.{ℕ, Bool, true, false, ◌&&◌, List, [], ◌∷◌, ◌==◌, nat_lt}
 use Rattle.requests.specs.Records.{is_live}
-use Rattle.agreement.specs.Codes.{sort_test}
-use Rattle.agreement.specs.Gather.{gather}
+use Rattle.std.specs.List.{flat_map}
 use Rattle.agreement.specs.History.{Event, openings, endings}
 use Rattle.agreement.specs.Key.{Key, same, Opening}
 use Rattle.agreement.specs.Records.{Retained, Request, Monitor, Message, Sort, MONITOR}
@@ -26,9 +25,13 @@ stage_at k w = only_if (same w.key k) w.stage
 abbrev pub sort_at : Key → Message → List Sort
 sort_at k x = only_if (same x.key k) x.sort
 
+abbrev pub is_monitor : Sort → Bool
+is_monitor MONITOR = true
+is_monitor _ = false
+
 -- the key of a MONITOR
 abbrev pub asked_key : Sort → Key → List Key
-asked_key κ k = only_if (sort_test κ MONITOR) k
+asked_key κ k = only_if (is_monitor κ) k
 
 abbrev pub opening : Request → Opening
 opening r = record { number = r.number; key = r.key }
@@ -69,7 +72,7 @@ pub record State : Type 0 where
   pub history : List Event
 
 abbrev pub lives : State → List Opening
-lives s = gather live_one s.table
+lives s = flat_map live_one s.table
 
 abbrev pub opened_in : State → List Opening
 opened_in s = openings s.history

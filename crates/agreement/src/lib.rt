@@ -4,8 +4,7 @@
 ghost use Rattle.agreement.specs.Agreement.{Kept};
 
 // Whatever state calls lead to, the two offices agree there.
-pub fn agreement_kept() -> u8
+#[tactic(auto, using(crate::proofs::Agree::kept))]
+pub fn agreement_kept()
     ensures { Kept }
-{
-    0
-}
+{}

@@ -1,3 +1,3 @@
 pub mod BitLaws
-pub mod BufferLaws
 pub mod PackLaws
+pub mod BufferLaws

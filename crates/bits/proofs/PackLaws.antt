@@ -1,5 +1,5 @@
 -- Bytes are their bits, packed.
-use Rattle.std.proofs.Common.{◌≡◌, ℕ, zero, suc, ◌+◌, ◌-◌, ◌*◌, ◌/◌, ◌%◌, ◌<◌, ◌≤◌, List, [], ◌∷◌, ◌++◌, length, get_or, take, drop, replicate, sym, refl, ap, ◌∙◌, arith, length-drop}
+use Rattle.std.proofs.Common.{◌≡◌, ℕ, zero, suc, ◌+◌, ◌-◌, ◌*◌, ◌/◌, ◌%◌, ◌<◌, ◌≤◌, List, [], ◌∷◌, ◌++◌, length, get_or, drop, replicate, sym, refl, ap, ◌∙◌, arith, length-drop}
 use native.Mathlib.Nat.{div-div-eq-div-mul}
 use Rattle.std.proofs.lemmas.List.{drop-replicate}
 use Rattle.bits.proofs.BitLaws.{drop_bits}
@@ -56,12 +56,6 @@ pack-zeros (suc n) xs m =
 -- the bytes whose bits are xs and then zeros
 pub packed : (bs xs : List ℕ) (m : ℕ) → Bytelike bs → unpack bs ≡ xs ++ replicate m 0 → bs ≡ pack (length bs) xs
 packed bs xs m h e = sym (pack-unpack bs h) ∙ ap (pack (length bs)) e ∙ pack-zeros (length bs) xs m
-
-pub take-bytes : (n : ℕ) (xs : List ℕ) → Bytelike xs → Bytelike (take n xs)
-take-bytes zero xs h i = omega arith
-take-bytes (suc n) [] h i = omega arith
-take-bytes (suc n) (x ∷ xs) h zero = h zero
-take-bytes (suc n) (x ∷ xs) h (suc i) = take-bytes n xs (λ j. h (suc j)) i
 
 byte-bits : (a b c d e f g h : ℕ) → a < 2 → b < 2 → c < 2 → d < 2 → e < 2 → f < 2 → g < 2 → h < 2 →
     byte_bits (a * 128 + b * 64 + c * 32 + d * 16 + e * 8 + f * 4 + g * 2 + h) ≡ a ∷ b ∷ c ∷ d ∷ e ∷ f ∷ g ∷ h ∷ []

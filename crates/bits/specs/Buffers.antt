@@ -1,16 +1,12 @@
--- What a buffer holds, what it takes on, and what it puts out.
+-- What a buffer takes on, and what it puts out.
 use Rattle.std.specs.Prelude.{◌≡◌, ℕ, cond, List, ◌++◌, length, take, drop, Ok, Err, Result, nat_le}
 use Rattle.fields.specs.declared.refusal.Refusal.{Refusal}
 use Rattle.fields.specs.declared.refusal.Refusal.TheVariants.{TooLittleRoom}
-use Rattle.bits.specs.Bits.{unpack, bytes_for, pack}
-use Rattle.bits.specs.declared.buffer.BitBuffer.{BitBuffer}
+use Rattle.bits.specs.Bits.{bytes_for, pack}
 
-abbrev pub held : BitBuffer → List ℕ
-held b = take b.len (unpack b.bytes)
-
--- c holds what b held and then xs, as far as there is room
-pub record Adds (b : BitBuffer) (xs : List ℕ) (c : BitBuffer) : Type 0 where
-  pub is : held c ≡ take 272 (held b ++ xs)
+-- after is before and then xs, as far as there is room
+pub record Adds (before xs after : List ℕ) : Type 0 where
+  pub is : after ≡ take 272 (before ++ xs)
 
 -- the answer, and the bytes after: the bits at the front and the rest as found, or all as found
 abbrev pub put_out : List ℕ → List ℕ → Result ℕ Refusal × List ℕ

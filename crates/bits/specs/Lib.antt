@@ -1,4 +1,5 @@
 pub mod Bits
 pub mod Faults
+pub mod Flags
 pub mod Reading
 pub mod Buffers

@@ -57,11 +57,11 @@ pub struct Fault {
     pub position: usize,
 }
 
-impl Fault {
-    pub fn number(self) -> u8
-        ensures { result ≡ fault_number self }
-    {
-        match self.reason {
+impl From<Fault> for u8 {
+    ghost from_gives = { λ fault n. n ≡ fault_number fault };
+
+    fn from(fault: Fault) -> u8 {
+        match fault.reason {
             Reason::EndsInside => 13,
             Reason::NotListed => 14,
             Reason::LeftOver => 15,

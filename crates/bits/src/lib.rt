@@ -7,4 +7,4 @@ pub mod reading;
 
 pub use buffer::BitBuffer;
 pub use fault::{ElementName, Fault, Layer, Reason};
-pub use reading::{bytes_for, reaches, read_bits};
+pub use reading::{Bits, bytes_for};

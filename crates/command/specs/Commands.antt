@@ -1,10 +1,11 @@
 -- What a line asks for, by its letter and the numbers that follow it.
-use Rattle.std.specs.Prelude.{ℕ, cond, List, [], ◌∷◌, None, codes, Option, ◌==◌, slice_index}
+use Rattle.std.specs.Prelude.{ℕ, cond, List, [], ◌∷◌, None, codes, Option, Result, ◌==◌, slice_index}
 use Prim.Native.String.{String}
-use Rattle.std.specs.Option.{option_map}
+use Rattle.std.specs.Option.{option_map, ok_or}
 use Rattle.text.specs.Numbers.{numbers_of}
 use Rattle.text.specs.Words.{words}
 use Rattle.command.specs.declared.commands.Command.{Command}
+use Rattle.command.specs.declared.commands.Unreadable.{Unreadable}
 use Rattle.command.specs.declared.commands.Command.TheVariants.{Subscriber, Line, Start, Retain, Request, Accept, Cancel, MarkCaller, Wake, Tick, Due, HearOriginating, MarkLine, ServeLine, LineOutcome, HearTerminating}
 
 -- a command that takes no number
@@ -66,3 +67,7 @@ asked_by ((letter ∷ other ∷ more) ∷ ws) = None
 
 abbrev pub command_of : List ℕ → Option Command
 command_of line = asked_by (words line)
+
+-- what a line is read as
+abbrev pub read_as : List ℕ → Result Command Unreadable
+read_as line = ok_or (command_of line) record {}

@@ -1,6 +1,9 @@
-// What a line can ask for.
+// What a line can ask for, in numbers of any size: the offices judge them. The cases name what
+// follows their letter, in its order.
+use std::error::Error;
+use std::fmt;
 
-#[derive(Clone, Copy)]
+#[derive(Clone, Copy, PartialEq, Eq, Debug)]
 pub enum Command {
     // before the offices start
     Subscriber {
@@ -57,3 +60,19 @@ pub enum Command {
     },
     HearTerminating,
 }
+
+// A line that is no command.
+#[derive(Clone, Copy, PartialEq, Eq, Debug)]
+pub struct Unreadable;
+
+impl fmt::Display for Unreadable {
+    ghost use Rattle.std.specs.Prelude.{Some, codes};
+
+    ghost output = { λ _. Some (codes "no command") };
+
+    fn fmt<W: fmt::Write>(&self, f: &mut fmt::Formatter<W>) -> fmt::Result {
+        write!(f, "no command")
+    }
+}
+
+impl Error for Unreadable {}

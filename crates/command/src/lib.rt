@@ -2,9 +2,10 @@
 #![tactic(auto)]
 
 pub mod commands;
+pub mod lines;
 pub mod reading;
 pub mod replies;
 
-pub use commands::Command;
-pub use reading::read_command;
-pub use replies::{Reply, write_reply};
+pub use commands::{Command, Unreadable};
+pub use lines::write_reply;
+pub use replies::Reply;

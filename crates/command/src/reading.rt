@@ -1,71 +1,72 @@
 // Reading a command.
 ghost use Rattle.std.specs.Prelude.{◌≡◌};
-ghost use Rattle.text.specs.Words.{words};
-ghost use Rattle.command.specs.Commands.{alone, terminating_by, originating_by, caller_by, lettered_by, command_of};
+ghost use Rattle.command.specs.Commands.{alone, terminating_by, originating_by, caller_by, lettered_by, read_as};
 
-use crate::commands::Command;
-use text::{next_word, numbers};
+use crate::commands::{Command, Unreadable};
+use text::Words;
 
 // The command, where no word follows its letter.
-fn bare_command(rest: &[u8], command: Command) -> Option<Command>
-    ensures { result ≡ alone command (words rest.now) }
+fn bare_command(words: Words<'_>, command: Command) -> Option<Command>
+    ensures { result ≡ alone command words.entry }
 {
-    let [] = numbers::<0>(rest)?;
+    let [] = words.numbers::<0>()?;
     Some(command)
 }
 
+// The letters stand in four functions, each short. By `?`, since `map` leaves a goal for each letter.
+
 // The letters of the terminating office.
-fn terminating_command(letter: char, rest: &[u8]) -> Option<Command>
-    ensures { result ≡ terminating_by letter (words rest.now) }
+fn terminating_command(letter: char, words: Words<'_>) -> Option<Command>
+    ensures { result ≡ terminating_by letter words.entry }
 {
     match letter {
         'm' => {
-            let [line, mark] = numbers::<2>(rest)?;
+            let [line, mark] = words.numbers::<2>()?;
             Some(Command::MarkLine { line, mark })
         }
         'v' => {
-            let [line] = numbers::<1>(rest)?;
+            let [line] = words.numbers::<1>()?;
             Some(Command::ServeLine { line })
         }
         'e' => {
-            let [line, outcome] = numbers::<2>(rest)?;
+            let [line, outcome] = words.numbers::<2>()?;
             Some(Command::LineOutcome { line, outcome })
         }
-        'f' => bare_command(rest, Command::HearTerminating),
+        'f' => bare_command(words, Command::HearTerminating),
         _ => None,
     }
 }
 
 // The letters of the originating office for what happens there, and what `terminating_command` reads.
-fn originating_command(letter: char, rest: &[u8]) -> Option<Command>
-    ensures { result ≡ originating_by letter (words rest.now) }
+fn originating_command(letter: char, words: Words<'_>) -> Option<Command>
+    ensures { result ≡ originating_by letter words.entry }
 {
     match letter {
         'b' => {
-            let [caller, mark] = numbers::<2>(rest)?;
+            let [caller, mark] = words.numbers::<2>()?;
             Some(Command::MarkCaller { caller, mark })
         }
         'w' => {
-            let [caller] = numbers::<1>(rest)?;
+            let [caller] = words.numbers::<1>()?;
             Some(Command::Wake { caller })
         }
         't' => {
-            let [time] = numbers::<1>(rest)?;
+            let [time] = words.numbers::<1>()?;
             Some(Command::Tick { time })
         }
-        'd' => bare_command(rest, Command::Due),
-        'o' => bare_command(rest, Command::HearOriginating),
-        _ => terminating_command(letter, rest),
+        'd' => bare_command(words, Command::Due),
+        'o' => bare_command(words, Command::HearOriginating),
+        _ => terminating_command(letter, words),
     }
 }
 
 // The letters for what a caller asks for, and what `originating_command` reads.
-fn caller_command(letter: char, rest: &[u8]) -> Option<Command>
-    ensures { result ≡ caller_by letter (words rest.now) }
+fn caller_command(letter: char, words: Words<'_>) -> Option<Command>
+    ensures { result ≡ caller_by letter words.entry }
 {
     match letter {
         'r' => {
-            let [caller, called, identifier, priority, service] = numbers::<5>(rest)?;
+            let [caller, called, identifier, priority, service] = words.numbers::<5>()?;
             Some(Command::Retain {
                 caller,
                 called,
@@ -75,46 +76,49 @@ fn caller_command(letter: char, rest: &[u8]) -> Option<Command>
             })
         }
         'q' => {
-            let [caller, identifier] = numbers::<2>(rest)?;
+            let [caller, identifier] = words.numbers::<2>()?;
             Some(Command::Request { caller, identifier })
         }
         'a' => {
-            let [caller, identifier] = numbers::<2>(rest)?;
+            let [caller, identifier] = words.numbers::<2>()?;
             Some(Command::Accept { caller, identifier })
         }
         'c' => {
-            let [caller, identifier] = numbers::<2>(rest)?;
+            let [caller, identifier] = words.numbers::<2>()?;
             Some(Command::Cancel { caller, identifier })
         }
-        _ => originating_command(letter, rest),
+        _ => originating_command(letter, words),
     }
 }
 
 // What any letter and the words after it ask for.
-fn lettered_command(letter: char, rest: &[u8]) -> Option<Command>
-    ensures { result ≡ lettered_by letter (words rest.now) }
+fn lettered_command(letter: char, words: Words<'_>) -> Option<Command>
+    ensures { result ≡ lettered_by letter words.entry }
 {
     match letter {
         's' => {
-            let [identity] = numbers::<1>(rest)?;
+            let [identity] = words.numbers::<1>()?;
             Some(Command::Subscriber { identity })
         }
         'l' => {
-            let [identity, service] = numbers::<2>(rest)?;
+            let [identity, service] = words.numbers::<2>()?;
             Some(Command::Line { identity, service })
         }
-        'g' => bare_command(rest, Command::Start),
-        _ => caller_command(letter, rest),
+        'g' => bare_command(words, Command::Start),
+        _ => caller_command(letter, words),
     }
 }
 
-// What the line asks for; none where it is unreadable.
-pub fn read_command(line: &[u8]) -> Option<Command>
-    ensures { result ≡ command_of line.now }
-{
-    let (word, rest) = next_word(line);
-    let [letter] = word else {
-        return None;
-    };
-    lettered_command(char::from(*letter), rest)
+impl TryFrom<&[u8]> for Command {
+    type Error = Unreadable;
+
+    ghost try_from_gives = { λ line command. command ≡ read_as line.now };
+
+    fn try_from(line: &[u8]) -> Result<Command, Unreadable> {
+        let mut words = Words::of(line);
+        let Some([letter]) = words.next() else {
+            return Err(Unreadable);
+        };
+        lettered_command(char::from(*letter), words).ok_or(Unreadable)
+    }
 }

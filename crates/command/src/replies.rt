@@ -1,10 +1,11 @@
 // Writing a reply.
-ghost use Rattle.std.specs.Prelude.{◌≡◌, ◌++◌, string_bytes, OnOk};
-ghost use Rattle.command.specs.Replies.{reply_line};
+ghost use Rattle.std.specs.Prelude.{Some};
+ghost use Rattle.command.specs.Replies.{reply_text};
 
-use std::alloc::AllocError;
+use std::fmt;
 
-#[derive(Clone, Copy)]
+// The columns of a line, as the offices number them: this crate knows no office.
+#[derive(Clone, Copy, PartialEq, Eq, Debug)]
 pub struct Reply {
     pub number: u8,
     pub notice: char,
@@ -13,16 +14,17 @@ pub struct Reply {
     pub cause: u8,
 }
 
-// Appends the reply as a line. Where memory runs out, a part of it may have been appended.
-pub fn write_reply(out: &mut String, reply: Reply) -> Result<(), AllocError>
-    ensures { OnOk result (string_bytes out.new ≡ string_bytes out.old ++ reply_line reply) }
-{
-    let Reply {
-        number,
-        notice,
-        request,
-        identifier,
-        cause,
-    } = reply;
-    writeln!(out, "{number} {notice} {request} {identifier} {cause}")
+impl fmt::Display for Reply {
+    ghost output = { λ reply. Some (reply_text reply) };
+
+    fn fmt<W: fmt::Write>(&self, f: &mut fmt::Formatter<W>) -> fmt::Result {
+        let Reply {
+            number,
+            notice,
+            request,
+            identifier,
+            cause,
+        } = self;
+        write!(f, "{number} {notice} {request} {identifier} {cause}")
+    }
 }

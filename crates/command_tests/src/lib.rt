@@ -3,41 +3,39 @@
 
 #[cfg(test)]
 mod tests {
-    use command::{Command, Reply, read_command, write_reply};
+    use command::{Command, Reply, Unreadable, write_reply};
     use std::test::Fail;
 
     #[test]
     fn reply(rt: HostRuntime) -> Result<(), Fail> {
         let mut out = String::new(rt.alloc());
-        write_reply(
-            &mut out,
-            Reply {
-                number: 0,
-                notice: 'E',
-                request: 1,
-                identifier: 1,
-                cause: 2,
-            },
-        )?;
+        let reply = Reply {
+            number: 0,
+            notice: 'E',
+            request: 1,
+            identifier: 1,
+            cause: 2,
+        };
+        write_reply(&mut out, reply)?;
         assert_eq!(rt; out.as_str(), "0 E 1 1 2\n");
         Ok(())
     }
 
     #[test]
-    fn commands(rt: HostRuntime) -> Result<(), Fail> {
-        assert!(rt;
-            matches!(
-                read_command(b"q 1 9"),
-                Some(Command::Request {
-                    caller: 1,
-                    identifier: 9
-                })
-            )
+    fn commands(rt: HostRuntime) {
+        assert_eq!(rt;
+            Command::try_from(b"q 1 9".as_slice()),
+            Ok(Command::Request {
+                caller: 1,
+                identifier: 9
+            })
         );
-        assert!(rt; matches!(read_command(b" f "), Some(Command::HearTerminating)));
-        assert!(rt; read_command(b"f 1").is_none());
-        assert!(rt; read_command(b"q 1").is_none());
-        assert!(rt; read_command(b"fo").is_none());
-        Ok(())
+        assert_eq!(rt;
+            Command::try_from(b" f ".as_slice()),
+            Ok(Command::HearTerminating)
+        );
+        assert_eq!(rt; Command::try_from(b"f 1".as_slice()), Err(Unreadable));
+        assert_eq!(rt; Command::try_from(b"q 1".as_slice()), Err(Unreadable));
+        assert_eq!(rt; Command::try_from(b"fo".as_slice()), Err(Unreadable));
     }
 }

@@ -1,6 +1,5 @@
-pub mod Codecs
 pub mod Codings
-pub mod Tables
-pub mod ClirColr
-pub mod Numbers
+pub mod Counts
+pub mod Listings
 pub mod Listed
+pub mod Numbers

@@ -1,8 +1,9 @@
 -- The listed values of elements, and their codes.
-use Rattle.std.specs.Prelude.{◌≡◌, ℕ, Bool, true, false, List, [], ◌∷◌, Some, refl}
+use Rattle.std.specs.Prelude.{◌≡◌, ℕ, Bool, true, false, List, [], ◌∷◌, Some, find, ◌==◌, refl}
+use Rattle.std.specs.Int.{from_bool}
 use Rattle.std.proofs.Common.{lit<, lit≤}
 use Rattle.element.specs.Codings.{Coding}
-use Rattle.element.specs.Tables.{lists, coded}
+use Rattle.element.specs.Listings.{Listing, listed}
 use Rattle.element.specs.declared.listed.SsType.{SsType}
 use Rattle.element.specs.declared.listed.SsType.TheVariants as ss_types
 use Rattle.element.specs.declared.listed.PduType.{PduType}
@@ -25,8 +26,6 @@ use Rattle.element.specs.declared.listed.FailureCause.{FailureCause}
 use Rattle.element.specs.declared.listed.FailureCause.TheVariants as failure_causes
 use Rattle.element.specs.declared.listed.CalledType.{CalledType}
 use Rattle.element.specs.declared.listed.CalledType.TheVariants as called_types
-use Rattle.element.specs.declared.listed.UpToFive.{UpToFive}
-use Rattle.element.specs.declared.listed.UpToFive.TheVariants as up_to_fives
 
 abbrev pub ss_type_code : SsType → ℕ
 ss_type_code ss_types.Ccbs = 13
@@ -34,11 +33,14 @@ ss_type_code ss_types.Ccbs = 13
 abbrev pub ss_type_values : List SsType
 ss_type_values = ss_types.Ccbs ∷ []
 
-pub ss_type-back : (x : SsType) → coded ss_type_code ss_type_values (ss_type_code x) ≡ Some x
+pub ss_type-back : (x : SsType) → find (λ a. ss_type_code a == ss_type_code x) ss_type_values ≡ Some x
 ss_type-back ss_types.Ccbs = refl
 
+abbrev pub ss_type_listing : Listing SsType
+ss_type_listing = record { width = 6; some = lit< tt; room = lit≤ tt; code = ss_type_code; values = ss_type_values; small = refl; back = ss_type-back }
+
 abbrev pub ss_type : Coding SsType
-ss_type = record { width = 6; some = lit< tt; room = lit≤ tt; table = lists 6 ss_type_code ss_type_values refl ss_type-back }
+ss_type = listed ss_type_listing
 
 abbrev pub pdu_type_code : PduType → ℕ
 pdu_type_code pdu_types.CallInformationRetention = 5
@@ -69,7 +71,7 @@ pdu_type_values =
     pdu_types.Failed ∷ pdu_types.FreeNotification ∷ pdu_types.SuspendCompletion ∷ pdu_types.UserBFree ∷
     pdu_types.Cancellation ∷ pdu_types.Ccbsi ∷ pdu_types.CallInformationRelease ∷ []
 
-pub pdu_type-back : (x : PduType) → coded pdu_type_code pdu_type_values (pdu_type_code x) ≡ Some x
+pub pdu_type-back : (x : PduType) → find (λ a. pdu_type_code a == pdu_type_code x) pdu_type_values ≡ Some x
 pdu_type-back pdu_types.CallInformationRetention = refl
 pdu_type-back pdu_types.Cancel = refl
 pdu_type-back pdu_types.List = refl
@@ -90,8 +92,11 @@ pdu_type-back pdu_types.Cancellation = refl
 pdu_type-back pdu_types.Ccbsi = refl
 pdu_type-back pdu_types.CallInformationRelease = refl
 
+abbrev pub pdu_type_listing : Listing PduType
+pdu_type_listing = record { width = 5; some = lit< tt; room = lit≤ tt; code = pdu_type_code; values = pdu_type_values; small = refl; back = pdu_type-back }
+
 abbrev pub pdu_type : Coding PduType
-pdu_type = record { width = 5; some = lit< tt; room = lit≤ tt; table = lists 5 pdu_type_code pdu_type_values refl pdu_type-back }
+pdu_type = listed pdu_type_listing
 
 abbrev pub verdict_code : Verdict → ℕ
 verdict_code verdicts.Accepted = 0
@@ -100,12 +105,15 @@ verdict_code verdicts.Rejected = 1
 abbrev pub verdict_values : List Verdict
 verdict_values = verdicts.Accepted ∷ verdicts.Rejected ∷ []
 
-pub verdict-back : (x : Verdict) → coded verdict_code verdict_values (verdict_code x) ≡ Some x
+pub verdict-back : (x : Verdict) → find (λ a. verdict_code a == verdict_code x) verdict_values ≡ Some x
 verdict-back verdicts.Accepted = refl
 verdict-back verdicts.Rejected = refl
 
+abbrev pub verdict_listing : Listing Verdict
+verdict_listing = record { width = 1; some = lit< tt; room = lit≤ tt; code = verdict_code; values = verdict_values; small = refl; back = verdict-back }
+
 abbrev pub verdict : Coding Verdict
-verdict = record { width = 1; some = lit< tt; room = lit≤ tt; table = lists 1 verdict_code verdict_values refl verdict-back }
+verdict = listed verdict_listing
 
 abbrev pub only_accepted_code : OnlyAccepted → ℕ
 only_accepted_code only_accepteds.Accepted = 0
@@ -113,11 +121,14 @@ only_accepted_code only_accepteds.Accepted = 0
 abbrev pub only_accepted_values : List OnlyAccepted
 only_accepted_values = only_accepteds.Accepted ∷ []
 
-pub only_accepted-back : (x : OnlyAccepted) → coded only_accepted_code only_accepted_values (only_accepted_code x) ≡ Some x
+pub only_accepted-back : (x : OnlyAccepted) → find (λ a. only_accepted_code a == only_accepted_code x) only_accepted_values ≡ Some x
 only_accepted-back only_accepteds.Accepted = refl
 
+abbrev pub only_accepted_listing : Listing OnlyAccepted
+only_accepted_listing = record { width = 1; some = lit< tt; room = lit≤ tt; code = only_accepted_code; values = only_accepted_values; small = refl; back = only_accepted-back }
+
 abbrev pub only_accepted : Coding OnlyAccepted
-only_accepted = record { width = 1; some = lit< tt; room = lit≤ tt; table = lists 1 only_accepted_code only_accepted_values refl only_accepted-back }
+only_accepted = listed only_accepted_listing
 
 abbrev pub only_rejected_code : OnlyRejected → ℕ
 only_rejected_code only_rejecteds.Rejected = 1
@@ -125,11 +136,14 @@ only_rejected_code only_rejecteds.Rejected = 1
 abbrev pub only_rejected_values : List OnlyRejected
 only_rejected_values = only_rejecteds.Rejected ∷ []
 
-pub only_rejected-back : (x : OnlyRejected) → coded only_rejected_code only_rejected_values (only_rejected_code x) ≡ Some x
+pub only_rejected-back : (x : OnlyRejected) → find (λ a. only_rejected_code a == only_rejected_code x) only_rejected_values ≡ Some x
 only_rejected-back only_rejecteds.Rejected = refl
 
+abbrev pub only_rejected_listing : Listing OnlyRejected
+only_rejected_listing = record { width = 1; some = lit< tt; room = lit≤ tt; code = only_rejected_code; values = only_rejected_values; small = refl; back = only_rejected-back }
+
 abbrev pub only_rejected : Coding OnlyRejected
-only_rejected = record { width = 1; some = lit< tt; room = lit≤ tt; table = lists 1 only_rejected_code only_rejected_values refl only_rejected-back }
+only_rejected = listed only_rejected_listing
 
 abbrev pub retain_capability_code : RetainCapability → ℕ
 retain_capability_code retain_capabilitys.Retains = 1
@@ -138,12 +152,15 @@ retain_capability_code retain_capabilitys.RetainsNot = 2
 abbrev pub retain_capability_values : List RetainCapability
 retain_capability_values = retain_capabilitys.Retains ∷ retain_capabilitys.RetainsNot ∷ []
 
-pub retain_capability-back : (x : RetainCapability) → coded retain_capability_code retain_capability_values (retain_capability_code x) ≡ Some x
+pub retain_capability-back : (x : RetainCapability) → find (λ a. retain_capability_code a == retain_capability_code x) retain_capability_values ≡ Some x
 retain_capability-back retain_capabilitys.Retains = refl
 retain_capability-back retain_capabilitys.RetainsNot = refl
 
+abbrev pub retain_capability_listing : Listing RetainCapability
+retain_capability_listing = record { width = 2; some = lit< tt; room = lit≤ tt; code = retain_capability_code; values = retain_capability_values; small = refl; back = retain_capability-back }
+
 abbrev pub retain_capability : Coding RetainCapability
-retain_capability = record { width = 2; some = lit< tt; room = lit≤ tt; table = lists 2 retain_capability_code retain_capability_values refl retain_capability-back }
+retain_capability = listed retain_capability_listing
 
 abbrev pub reject_cause_code : RejectCause → ℕ
 reject_cause_code reject_causes.AnyReason = 0
@@ -180,7 +197,7 @@ reject_cause_values =
     reject_causes.NoResourcesAtCalled ∷ reject_causes.ShortTermDenial ∷ reject_causes.LongTermDenial ∷ reject_causes.NotReady ∷
     reject_causes.AlreadyAccepted ∷ reject_causes.NoResourcesAtCaller ∷ reject_causes.UnknownOperation ∷ reject_causes.NoMatch ∷ []
 
-pub reject_cause-back : (x : RejectCause) → coded reject_cause_code reject_cause_values (reject_cause_code x) ≡ Some x
+pub reject_cause-back : (x : RejectCause) → find (λ a. reject_cause_code a == reject_cause_code x) reject_cause_values ≡ Some x
 reject_cause-back reject_causes.AnyReason = refl
 reject_cause-back reject_causes.NotSubscribed = refl
 reject_cause-back reject_causes.NoRequests = refl
@@ -206,8 +223,11 @@ reject_cause-back reject_causes.NoResourcesAtCaller = refl
 reject_cause-back reject_causes.UnknownOperation = refl
 reject_cause-back reject_causes.NoMatch = refl
 
+abbrev pub reject_cause_listing : Listing RejectCause
+reject_cause_listing = record { width = 5; some = lit< tt; room = lit≤ tt; code = reject_cause_code; values = reject_cause_values; small = refl; back = reject_cause-back }
+
 abbrev pub reject_cause : Coding RejectCause
-reject_cause = record { width = 5; some = lit< tt; room = lit≤ tt; table = lists 5 reject_cause_code reject_cause_values refl reject_cause-back }
+reject_cause = listed reject_cause_listing
 
 abbrev pub list_request_code : ListRequest → ℕ
 list_request_code list_requests.Count = 0
@@ -217,13 +237,16 @@ list_request_code list_requests.Details = 2
 abbrev pub list_request_values : List ListRequest
 list_request_values = list_requests.Count ∷ list_requests.Identifiers ∷ list_requests.Details ∷ []
 
-pub list_request-back : (x : ListRequest) → coded list_request_code list_request_values (list_request_code x) ≡ Some x
+pub list_request-back : (x : ListRequest) → find (λ a. list_request_code a == list_request_code x) list_request_values ≡ Some x
 list_request-back list_requests.Count = refl
 list_request-back list_requests.Identifiers = refl
 list_request-back list_requests.Details = refl
 
+abbrev pub list_request_listing : Listing ListRequest
+list_request_listing = record { width = 2; some = lit< tt; room = lit≤ tt; code = list_request_code; values = list_request_values; small = refl; back = list_request-back }
+
 abbrev pub list_request : Coding ListRequest
-list_request = record { width = 2; some = lit< tt; room = lit≤ tt; table = lists 2 list_request_code list_request_values refl list_request-back }
+list_request = listed list_request_listing
 
 abbrev pub cancellation_cause_code : CancellationCause → ℕ
 cancellation_cause_code cancellation_causes.AnyReason = 0
@@ -240,7 +263,7 @@ cancellation_cause_values =
     cancellation_causes.AnyReason ∷ cancellation_causes.ServiceTimer ∷ cancellation_causes.OutsideArea ∷ cancellation_causes.Completed ∷
     cancellation_causes.IncompatibleService ∷ cancellation_causes.Interworking ∷ cancellation_causes.CallFailed ∷ cancellation_causes.RecallTimer ∷ []
 
-pub cancellation_cause-back : (x : CancellationCause) → coded cancellation_cause_code cancellation_cause_values (cancellation_cause_code x) ≡ Some x
+pub cancellation_cause-back : (x : CancellationCause) → find (λ a. cancellation_cause_code a == cancellation_cause_code x) cancellation_cause_values ≡ Some x
 cancellation_cause-back cancellation_causes.AnyReason = refl
 cancellation_cause-back cancellation_causes.ServiceTimer = refl
 cancellation_cause-back cancellation_causes.OutsideArea = refl
@@ -250,8 +273,11 @@ cancellation_cause-back cancellation_causes.Interworking = refl
 cancellation_cause-back cancellation_causes.CallFailed = refl
 cancellation_cause-back cancellation_causes.RecallTimer = refl
 
+abbrev pub cancellation_cause_listing : Listing CancellationCause
+cancellation_cause_listing = record { width = 3; some = lit< tt; room = lit≤ tt; code = cancellation_cause_code; values = cancellation_cause_values; small = refl; back = cancellation_cause-back }
+
 abbrev pub cancellation_cause : Coding CancellationCause
-cancellation_cause = record { width = 3; some = lit< tt; room = lit≤ tt; table = lists 3 cancellation_cause_code cancellation_cause_values refl cancellation_cause-back }
+cancellation_cause = listed cancellation_cause_listing
 
 abbrev pub failure_cause_code : FailureCause → ℕ
 failure_cause_code failure_causes.AnyReason = 0
@@ -264,7 +290,7 @@ failure_cause_code failure_causes.Interworking = 5
 abbrev pub failure_cause_values : List FailureCause
 failure_cause_values = failure_causes.AnyReason ∷ failure_causes.BusyAgain ∷ failure_causes.Congestion ∷ failure_causes.SignallingFailed ∷ failure_causes.IncompatibleService ∷ failure_causes.Interworking ∷ []
 
-pub failure_cause-back : (x : FailureCause) → coded failure_cause_code failure_cause_values (failure_cause_code x) ≡ Some x
+pub failure_cause-back : (x : FailureCause) → find (λ a. failure_cause_code a == failure_cause_code x) failure_cause_values ≡ Some x
 failure_cause-back failure_causes.AnyReason = refl
 failure_cause-back failure_causes.BusyAgain = refl
 failure_cause-back failure_causes.Congestion = refl
@@ -272,8 +298,11 @@ failure_cause-back failure_causes.SignallingFailed = refl
 failure_cause-back failure_causes.IncompatibleService = refl
 failure_cause-back failure_causes.Interworking = refl
 
+abbrev pub failure_cause_listing : Listing FailureCause
+failure_cause_listing = record { width = 3; some = lit< tt; room = lit≤ tt; code = failure_cause_code; values = failure_cause_values; small = refl; back = failure_cause-back }
+
 abbrev pub failure_cause : Coding FailureCause
-failure_cause = record { width = 3; some = lit< tt; room = lit≤ tt; table = lists 3 failure_cause_code failure_cause_values refl failure_cause-back }
+failure_cause = listed failure_cause_listing
 
 abbrev pub called_type_code : CalledType → ℕ
 called_type_code called_types.ShortNumber = 0
@@ -283,46 +312,26 @@ called_type_code called_types.Tsi = 2
 abbrev pub called_type_values : List CalledType
 called_type_values = called_types.ShortNumber ∷ called_types.Ssi ∷ called_types.Tsi ∷ []
 
-pub called_type-back : (x : CalledType) → coded called_type_code called_type_values (called_type_code x) ≡ Some x
+pub called_type-back : (x : CalledType) → find (λ a. called_type_code a == called_type_code x) called_type_values ≡ Some x
 called_type-back called_types.ShortNumber = refl
 called_type-back called_types.Ssi = refl
 called_type-back called_types.Tsi = refl
 
+abbrev pub called_type_listing : Listing CalledType
+called_type_listing = record { width = 2; some = lit< tt; room = lit≤ tt; code = called_type_code; values = called_type_values; small = refl; back = called_type-back }
+
 abbrev pub called_type : Coding CalledType
-called_type = record { width = 2; some = lit< tt; room = lit≤ tt; table = lists 2 called_type_code called_type_values refl called_type-back }
-
-abbrev pub up_to_five_code : UpToFive → ℕ
-up_to_five_code up_to_fives.Zero = 0
-up_to_five_code up_to_fives.One = 1
-up_to_five_code up_to_fives.Two = 2
-up_to_five_code up_to_fives.Three = 3
-up_to_five_code up_to_fives.Four = 4
-up_to_five_code up_to_fives.Five = 5
-
-abbrev pub up_to_five_values : List UpToFive
-up_to_five_values = up_to_fives.Zero ∷ up_to_fives.One ∷ up_to_fives.Two ∷ up_to_fives.Three ∷ up_to_fives.Four ∷ up_to_fives.Five ∷ []
-
-pub up_to_five-back : (x : UpToFive) → coded up_to_five_code up_to_five_values (up_to_five_code x) ≡ Some x
-up_to_five-back up_to_fives.Zero = refl
-up_to_five-back up_to_fives.One = refl
-up_to_five-back up_to_fives.Two = refl
-up_to_five-back up_to_fives.Three = refl
-up_to_five-back up_to_fives.Four = refl
-up_to_five-back up_to_fives.Five = refl
-
-abbrev pub up_to_five : Coding UpToFive
-up_to_five = record { width = 3; some = lit< tt; room = lit≤ tt; table = lists 3 up_to_five_code up_to_five_values refl up_to_five-back }
-
-abbrev pub flag_code : Bool → ℕ
-flag_code false = 0
-flag_code true = 1
+called_type = listed called_type_listing
 
 abbrev pub flag_values : List Bool
 flag_values = false ∷ true ∷ []
 
-pub flag-back : (x : Bool) → coded flag_code flag_values (flag_code x) ≡ Some x
+pub flag-back : (x : Bool) → find (λ a. from_bool a == from_bool x) flag_values ≡ Some x
 flag-back false = refl
 flag-back true = refl
 
+abbrev pub flag_listing : Listing Bool
+flag_listing = record { width = 1; some = lit< tt; room = lit≤ tt; code = from_bool; values = flag_values; small = refl; back = flag-back }
+
 abbrev pub flag : Coding Bool
-flag = record { width = 1; some = lit< tt; room = lit≤ tt; table = lists 1 flag_code flag_values refl flag-back }
+flag = listed flag_listing

@@ -1,79 +1,71 @@
 -- Elements that take every number of their width.
-use Rattle.std.proofs.Common.{mod-eq_of_lt, lit<, lit≤}
+use Rattle.std.specs.Prelude.{◌≡◌, ℕ, ◌^◌, Bool, true, false, cond, Some, Ok, Err, Option, nat_lt, refl}
+use Rattle.std.specs.Result.{result_ok}
+use Rattle.std.proofs.Common.{sym, ap, ◌∙◌, arith, mod-eq_of_lt}
+use Rattle.std.proofs.lemmas.Bool.{ltb-true}
 use Rattle.element.specs.Codings.{Coding}
-use Rattle.element.specs.Tables.{numbers}
-use Rattle.element.specs.ClirColr.{clir_colr_of, same-clir-colr}
-use Rattle.element.specs.declared.clir_colr.ClirColr.{ClirColr}
-use Rattle.fields.specs.Values.{identifier_of, call_identifier_of, ssi_of, extension_of, priority_of, service_of, area_selection_of}
-use Rattle.fields.proofs.Same.{same-identifier, same-call-identifier, same-ssi, same-extension, same-priority, same-service, same-area-selection}
-use Rattle.fields.specs.declared.values.Identifier.{Identifier}
-use Rattle.fields.specs.declared.values.CallIdentifier.{CallIdentifier}
-use Rattle.fields.specs.declared.values.Ssi.{Ssi}
-use Rattle.fields.specs.declared.values.Extension.{Extension}
-use Rattle.fields.specs.declared.values.Priority.{Priority}
-use Rattle.fields.specs.declared.values.Service.{Service}
-use Rattle.fields.specs.declared.values.AreaSelection.{AreaSelection}
+use Rattle.element.specs.declared.kinds.ClirColr as clir_colr_kind
+use Rattle.element.specs.contracts.kinds.ClirColrKind.TheImpl as clir_colr_ghosts
+use Rattle.fields.specs.Fields.{field_of, checked}
+use Rattle.fields.specs.Values.{Identifier, CallIdentifier, Ssi, Extension, Priority, Service, AreaSelection}
+use Rattle.fields.specs.declared.field.Field.{Field}
+use Rattle.fields.specs.declared.kinds.Kind.{Ghosts}
+use Rattle.fields.specs.declared.refusal.Refusal.{Refusal}
+use Rattle.fields.specs.declared.refusal.Refusal.TheVariants.{OutsideField}
+use Rattle.fields.specs.contracts.kinds.IdentifierKind.TheImpl as identifier_kind
+use Rattle.fields.specs.contracts.kinds.CallIdentifierKind.TheImpl as call_identifier_kind
+use Rattle.fields.specs.contracts.kinds.SsiKind.TheImpl as ssi_kind
+use Rattle.fields.specs.contracts.kinds.ExtensionKind.TheImpl as extension_kind
+use Rattle.fields.specs.contracts.kinds.PriorityKind.TheImpl as priority_kind
+use Rattle.fields.specs.contracts.kinds.ServiceKind.TheImpl as service_kind
+use Rattle.fields.specs.contracts.kinds.AreaSelectionKind.TheImpl as area_selection_kind
+use Rattle.fields.proofs.Accepted.{accepted}
+
+module _ {K : Type 0} (kind : Ghosts K) where
+  abbrev pub number-listed : ℕ → Option (Field K kind)
+  number-listed v = result_ok (checked kind.WIDTH (field_of kind) v)
+
+  pub number-forth : (v : ℕ) (x : Field K kind) → number-listed v ≡ Some x → x.bits ≡ v
+  number-forth v x h =
+      let P : Bool → Type 0 = λ b. nat_lt v (2 ^ kind.WIDTH) ≡ b → result_ok {E = Refusal} (cond b (Ok (field_of kind v)) (Err OutsideField)) ≡ Some x → x.bits ≡ v in
+      let cases : (b : Bool) → P b = λ b. elim b as P [
+        | true ↦ (λ e k. let q : field_of kind v ≡ x = cc in ap (λ f. f.bits) (sym q) ∙ mod-eq_of_lt (ltb-true v (2 ^ kind.WIDTH) e))
+        | false ↦ (λ e k. let z : ◌≡◌ {A = ℕ} 0 1 = cc in absurd (omega arith))
+      ] in
+      cases (nat_lt v (2 ^ kind.WIDTH)) refl h
+
+  -- a field of this kind, its bits being its code
+  abbrev pub number : Coding (Field K kind)
+  number = record {
+    width = kind.WIDTH;
+    some = kind.some;
+    room = kind.narrow;
+    table = record { code = λ x. x.bits; listed = number-listed; fits = λ x. x.fits; back = λ x. ap result_ok (sym (accepted x)); forth = number-forth };
+  }
+
+abbrev pub ClirColr : Type 0
+ClirColr = Field clir_colr_kind.ClirColr clir_colr_ghosts.ghosts
 
 abbrev pub identifier : Coding Identifier
-identifier = record {
-  width = 3;
-  some = lit< tt;
-  room = lit≤ tt;
-  table = numbers 3 (λ x. x.bits) identifier_of (λ x. x.fits) (λ v h. mod-eq_of_lt h) (λ x. same-identifier (identifier_of x.bits) x (mod-eq_of_lt x.fits));
-}
+identifier = number identifier_kind.ghosts
 
 abbrev pub call_identifier : Coding CallIdentifier
-call_identifier = record {
-  width = 14;
-  some = lit< tt;
-  room = lit≤ tt;
-  table = numbers 14 (λ x. x.bits) call_identifier_of (λ x. x.fits) (λ v h. mod-eq_of_lt h) (λ x. same-call-identifier (call_identifier_of x.bits) x (mod-eq_of_lt x.fits));
-}
+call_identifier = number call_identifier_kind.ghosts
 
 abbrev pub ssi : Coding Ssi
-ssi = record {
-  width = 24;
-  some = lit< tt;
-  room = lit≤ tt;
-  table = numbers 24 (λ x. x.bits) ssi_of (λ x. x.fits) (λ v h. mod-eq_of_lt h) (λ x. same-ssi (ssi_of x.bits) x (mod-eq_of_lt x.fits));
-}
+ssi = number ssi_kind.ghosts
 
 abbrev pub extension : Coding Extension
-extension = record {
-  width = 24;
-  some = lit< tt;
-  room = lit≤ tt;
-  table = numbers 24 (λ x. x.bits) extension_of (λ x. x.fits) (λ v h. mod-eq_of_lt h) (λ x. same-extension (extension_of x.bits) x (mod-eq_of_lt x.fits));
-}
+extension = number extension_kind.ghosts
 
 abbrev pub priority : Coding Priority
-priority = record {
-  width = 4;
-  some = lit< tt;
-  room = lit≤ tt;
-  table = numbers 4 (λ x. x.bits) priority_of (λ x. x.fits) (λ v h. mod-eq_of_lt h) (λ x. same-priority (priority_of x.bits) x (mod-eq_of_lt x.fits));
-}
+priority = number priority_kind.ghosts
 
 abbrev pub service : Coding Service
-service = record {
-  width = 8;
-  some = lit< tt;
-  room = lit≤ tt;
-  table = numbers 8 (λ x. x.bits) service_of (λ x. x.fits) (λ v h. mod-eq_of_lt h) (λ x. same-service (service_of x.bits) x (mod-eq_of_lt x.fits));
-}
+service = number service_kind.ghosts
 
 abbrev pub area_selection : Coding AreaSelection
-area_selection = record {
-  width = 4;
-  some = lit< tt;
-  room = lit≤ tt;
-  table = numbers 4 (λ x. x.bits) area_selection_of (λ x. x.fits) (λ v h. mod-eq_of_lt h) (λ x. same-area-selection (area_selection_of x.bits) x (mod-eq_of_lt x.fits));
-}
+area_selection = number area_selection_kind.ghosts
 
 abbrev pub clir_colr : Coding ClirColr
-clir_colr = record {
-  width = 2;
-  some = lit< tt;
-  room = lit≤ tt;
-  table = numbers 2 (λ x. x.bits) clir_colr_of (λ x. x.fits) (λ v h. mod-eq_of_lt h) (λ x. same-clir-colr (clir_colr_of x.bits) x (mod-eq_of_lt x.fits));
-}
+clir_colr = number clir_colr_ghosts.ghosts

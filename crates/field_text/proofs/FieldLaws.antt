@@ -1,6 +1,7 @@
 -- A field that was told is heard, and the words of a text of fields are the fields.
-use Rattle.std.proofs.Common.{◌≡◌, ℕ, zero, suc, ◌+◌, ◌-◌, ◌*◌, ◌/◌, ◌%◌, ◌^◌, ◌<◌, ◌≤◌, Bool, true, false, cond, eqb, List, [], ◌∷◌, ◌++◌, Some, None, Ok, decimal, Option, sym, refl, ap, ◌∙◌, append_assoc, append-nil, arith, lit<}
+use Rattle.std.proofs.Common.{◌≡◌, ℕ, zero, suc, ◌+◌, ◌-◌, ◌*◌, ◌/◌, ◌%◌, ◌^◌, ◌<◌, ◌≤◌, Bool, true, false, cond, eqb, List, [], ◌∷◌, ◌++◌, Some, None, decimal, sym, refl, ap, ◌∙◌, append_assoc, append-nil, arith, lit<}
 use native.Mathlib.Nat.{pow-le-pow_right}
+use Rattle.std.proofs.lemmas.Grind.{flat_map-append}
 use Rattle.std.proofs.lemmas.Fmt.{decimal_by_steps, decimal_nonempty, length-decimal-le}
 use Rattle.std.proofs.lemmas.Bool.{lt-ltb}
 use Rattle.std.proofs.lemmas.Bool.Decides.{nat_tests}
@@ -8,25 +9,16 @@ use Rattle.std.specs.Fmt.{digit_glyph, digits_onto, digits}
 use Rattle.std.specs.Str.{bytes_eq}
 use Rattle.bits.specs.declared.fault.ElementName.{ElementName}
 use Rattle.bits.specs.declared.fault.ElementName.TheVariants as names
-use Rattle.element.specs.Codings.{Coding}
 use Rattle.text.specs.Numbers.{is_digit, decimal_after, number_of}
-use Rattle.text.specs.Words.{is_blank, before, words_after, words, starts_with}
+use Rattle.text.specs.Words.{is_blank, before, words_after, words}
 use Rattle.text.proofs.Values.{a-digit, sized}
 use Rattle.field_text.specs.Names.{field_name}
-use Rattle.field_text.specs.Fields.{Field, field_word, words_of, text_of, Tells, name_in, digits_in, within, value_in, listed_or, valued_or, field_heard, begins}
-
-pub words_of-append : (xs ys : List Field) → words_of (xs ++ ys) ≡ words_of xs ++ words_of ys
-words_of-append [] ys = refl
-words_of-append (f ∷ xs) ys = ap (λ ws. field_word f ∷ ws) (words_of-append xs ys)
-
-pub text_of-append : (xs ys : List Field) → text_of (xs ++ ys) ≡ text_of xs ++ text_of ys
-unfolding text_of
-text_of-append [] ys = refl
-text_of-append (f ∷ xs) ys = ap (λ t. 32 ∷ (field_word f ++ t)) (text_of-append xs ys) ∙ ap (λ t. 32 ∷ t) (sym (append_assoc (field_word f) (text_of xs) (text_of ys)))
+use Rattle.field_text.specs.Fields.{Field, field_word, field_text, words_of, text_of, Tells, name_in, digits_in, within, value_in, begins}
 
 -- fields appended after fields
 pub told : {a b d : List ℕ} {xs ys : List Field} → Tells a xs b → Tells b ys d → Tells a (xs ++ ys) d
-told {a = a} {xs = xs} {ys = ys} h k = record { is = k.is ∙ ap (λ t. t ++ text_of ys) h.is ∙ append_assoc a (text_of xs) (text_of ys) ∙ ap (λ t. a ++ t) (sym (text_of-append xs ys)) }
+unfolding text_of
+told {a = a} {xs = xs} {ys = ys} h k = record { is = k.is ∙ ap (λ t. t ++ text_of ys) h.is ∙ append_assoc a (text_of xs) (text_of ys) ∙ ap (λ t. a ++ t) (sym (flat_map-append field_text xs ys)) }
 
 pub none_told : (a : List ℕ) → Tells a [] a
 unfolding text_of
@@ -36,47 +28,6 @@ none_told a = record { is = sym (append-nil a) }
 pub one_told : (e : ElementName) (v : ℕ) → text_of ((e, v) ∷ []) ≡ 32 ∷ (field_name e ++ (61 ∷ decimal v))
 unfolding text_of field_word
 one_told e v = ap (λ t. 32 ∷ t) (append-nil (field_name e ++ (61 ∷ decimal v)))
-
--- an empty word is no field, so it ends the fields as it ends the words
-no_name : (e : ElementName) → bytes_eq [] (field_name e) ≡ false
-no_name names.SsType = refl
-no_name names.PduType = refl
-no_name names.CallIdentifier = refl
-no_name names.AreaSelection = refl
-no_name names.CallPriority = refl
-no_name names.ClirColr = refl
-no_name names.BasicService = refl
-no_name names.CalledSsi = refl
-no_name names.CalledExtension = refl
-no_name names.CallingSsi = refl
-no_name names.CallingExtension = refl
-no_name names.Ccbsi = refl
-no_name names.CancellationResult = refl
-no_name names.RejectCause = refl
-no_name names.CancellationCause = refl
-no_name names.FailureCause = refl
-no_name names.RequestMaintained = refl
-no_name names.ListRequest = refl
-no_name names.AcceptReject = refl
-no_name names.ListLength = refl
-no_name names.RequestCount = refl
-no_name names.RetainCapability = refl
-no_name names.CalledType = refl
-no_name names.Optional = refl
-
-heard-first : {A : Type 0} (e : ElementName) (c : Coding A) (w : List ℕ) (ws : List (List ℕ)) → field_heard e c (starts_with w ws) ≡ valued_or c (value_in e c.width w) ws
-unfolding field_heard
-heard-first e c [] ws = sym (ap (λ t. valued_or c (cond t (within c.width (number_of [])) None) ws) (no_name e))
-heard-first e c (b ∷ w) ws = refl
-
-pub field-first : {A : Type 0} (e : ElementName) (c : Coding A) (all : List (List ℕ)) (w : List ℕ) (ws : List (List ℕ)) (width : ℕ) (o : Option ℕ) → all ≡ starts_with w ws → width ≡ c.width → o ≡ value_in e width w → field_heard e c all ≡ valued_or c o ws
-field-first e c all w ws width o splits is v =
-    ap (field_heard e c) splits ∙ heard-first e c w ws ∙ ap (λ x. valued_or c x ws) (ap (λ n. value_in e n w) (sym is) ∙ sym v)
-
-pub begins-first : (e : ElementName) (w : List ℕ) (ws : List (List ℕ)) → begins e (starts_with w ws) ≡ bytes_eq (name_in w) (field_name e)
-unfolding begins
-begins-first e [] ws = sym (no_name e)
-begins-first e (b ∷ w) ws = refl
 
 -- one digit more
 digit-more : (v : ℕ) (ds : List ℕ) (m d : ℕ) → is_digit d ≡ true → decimal_after v ds ≡ Some m → decimal_after v (ds ++ d ∷ []) ≡ Some (m * 10 + (d - 48))
@@ -92,7 +43,7 @@ decimal-read = decimal_by_steps (λ n ds. decimal_after 0 ds ≡ Some n)
     (λ n small. digit-more 0 [] 0 (48 + n) (a-digit (48 + n) (omega arith) (omega arith)) refl ∙ ap Some (omega arith))
     (λ n ds l h. digit-more 0 ds (n / 10) (48 + n % 10) (a-digit (48 + n % 10) (omega arith) (omega arith)) h ∙ ap Some (omega arith))
 
-number_read : (n : ℕ) → n < 2 ^ 32 → number_of (decimal n) ≡ Some n
+number_read : (n : ℕ) → n < 2 ^ 48 → number_of (decimal n) ≡ Some n
 number_read n small = sized (decimal n) (decimal_nonempty n (omega arith)) (length-decimal-le 15 n (omega arith) (omega arith) (omega arith)) ∙ decimal-read n (omega arith)
 
 name-told : (e : ElementName) (rest : List ℕ) → name_in (field_name e ++ (61 ∷ rest)) ≡ field_name e
@@ -173,22 +124,16 @@ same_name names.RetainCapability = refl
 same_name names.CalledType = refl
 same_name names.Optional = refl
 
-value-told : (e : ElementName) (width v : ℕ) → width ≤ 32 → v < 2 ^ width → value_in e width (field_word (e, v)) ≡ Some v
+pub value-told : (e : ElementName) (width v : ℕ) → width ≤ 48 → v < 2 ^ width → value_in e width (field_word (e, v)) ≡ Some v
 unfolding field_word
 value-told e width v room fits =
-    let p : 2 ^ width ≤ 2 ^ 32 = pow-le-pow_right {n = 2} (lit< tt) room in
+    let p : 2 ^ width ≤ 2 ^ 48 = pow-le-pow_right {n = 2} (lit< tt) room in
     let ds = decimal v in
     ap (λ w. cond (bytes_eq w (field_name e)) (within width (number_of (digits_in (field_name e ++ (61 ∷ ds))))) None) (name-told e ds)
     ∙ ap (λ t. cond t (within width (number_of (digits_in (field_name e ++ (61 ∷ ds))))) None) (same_name e)
     ∙ ap (λ w. within width (number_of w)) (digits-told e ds)
     ∙ ap (within width) (number_read v (omega arith))
     ∙ ap (λ t. cond t (Some v) None) (lt-ltb v (2 ^ width) fits)
-
-pub field-heard : {A : Type 0} (e : ElementName) (c : Coding A) (a : A) (more : List (List ℕ)) → field_heard e c (field_word (e, c.table.code a) ∷ more) ≡ Ok (a, more)
-unfolding field_heard
-field-heard e c a more =
-    ap (λ o. valued_or c o more) (value-told e c.width (c.table.code a) c.room (c.table.fits a))
-    ∙ ap (λ o. listed_or o more) (c.table.back a)
 
 pub begins-told : (e f : ElementName) (v : ℕ) (more : List (List ℕ)) → begins e (field_word (f, v) ∷ more) ≡ bytes_eq (field_name f) (field_name e)
 unfolding begins field_word

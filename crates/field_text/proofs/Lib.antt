@@ -1,2 +1,1 @@
 pub mod FieldLaws
-mod Places

@@ -1,14 +1,10 @@
 -- A field of a text: its name, an equals sign and its value in decimal.
-use Rattle.std.specs.Prelude.{◌≡◌, ℕ, ◌+◌, ◌^◌, Bool, false, cond, not, List, [], ◌∷◌, ◌++◌, take, drop, Some, None, Ok, Err, decimal, Option, Result, ◌==◌, nat_lt}
-use Rattle.std.specs.List.{prefix_len}
+use Rattle.std.specs.Prelude.{◌≡◌, ℕ, ◌+◌, ◌^◌, Bool, false, cond, List, [], ◌∷◌, ◌++◌, map, take, drop, Some, None, decimal, Option, ◌==◌, nat_lt}
+use Rattle.std.specs.List.{flat_map, position_or_len}
 use Rattle.std.specs.Str.{bytes_eq}
 use Rattle.bits.specs.declared.fault.ElementName.{ElementName}
-use Rattle.element.specs.Codings.{Coding}
 use Rattle.text.specs.Numbers.{number_of}
-use Rattle.text.specs.Words.{words}
 use Rattle.field_text.specs.Names.{field_name}
-use Rattle.field_text.specs.declared.fault.TextFault.{TextFault}
-use Rattle.field_text.specs.declared.fault.TextFault.TheVariants.{Unreadable, NotListed}
 
 abbrev pub Field : Type 0
 Field = ElementName × ℕ
@@ -17,59 +13,43 @@ unfoldable pub field_word : Field → List ℕ
 field_word f = field_name f.0 ++ (61 ∷ decimal f.1)
 
 abbrev pub words_of : List Field → List (List ℕ)
-words_of [] = []
-words_of (f ∷ fs) = field_word f ∷ words_of fs
+words_of fs = map field_word fs
 
--- each after a space
+-- after a space
+abbrev pub field_text : Field → List ℕ
+field_text f = 32 ∷ field_word f
+
 unfoldable pub text_of : List Field → List ℕ
-text_of [] = []
-text_of (f ∷ fs) = 32 ∷ (field_word f ++ text_of fs)
+text_of fs = flat_map field_text fs
 
 -- the fields stand after what stood there before
 pub record Tells (before : List ℕ) (fs : List Field) (after : List ℕ) : Type 0 where
   pub is : after ≡ before ++ text_of fs
 
--- no equals sign
-abbrev pub spells : ℕ → Bool
-spells b = not (b == 61)
+-- how many bytes of a word stand before its first equals sign
+abbrev pub name_len : List ℕ → ℕ
+name_len word = position_or_len (λ b. b == 61) word
 
--- what stands before the first equals sign of a word, and what stands after it
+-- what stands before it, and what stands after it
 abbrev pub name_in : List ℕ → List ℕ
-name_in word = take (prefix_len spells word) word
+name_in word = take (name_len word) word
 
 abbrev pub digits_in : List ℕ → List ℕ
-digits_in word = drop (prefix_len spells word + 1) word
+digits_in word = drop (name_len word + 1) word
 
 abbrev pub within : ℕ → Option ℕ → Option ℕ
 within width None = None
 within width (Some v) = cond (nat_lt v (2 ^ width)) (Some v) None
 
+-- whether a word has this name
+abbrev pub is_field : ElementName → List ℕ → Bool
+is_field e word = bytes_eq (name_in word) (field_name e)
+
 -- the value of a word that is this field
 abbrev pub value_in : ElementName → ℕ → List ℕ → Option ℕ
-value_in e width word = cond (bytes_eq (name_in word) (field_name e)) (within width (number_of (digits_in word))) None
-
-abbrev pub Heard : Type 0 → Type 0
-Heard A = Result (A × List (List ℕ)) TextFault
-
-abbrev pub listed_or : {A : Type 0} → Option A → List (List ℕ) → Heard A
-listed_or None ws = Err NotListed
-listed_or (Some a) ws = Ok (a, ws)
-
-abbrev pub valued_or : {A : Type 0} → Coding A → Option ℕ → List (List ℕ) → Heard A
-valued_or c None ws = Err Unreadable
-valued_or c (Some v) ws = listed_or (c.table.listed v) ws
-
--- the element that the first word tells, and the words after it
-unfoldable pub field_heard : {A : Type 0} → ElementName → Coding A → List (List ℕ) → Heard A
-field_heard e c [] = Err Unreadable
-field_heard e c (w ∷ ws) = valued_or c (value_in e c.width w) ws
+value_in e width word = cond (is_field e word) (within width (number_of (digits_in word))) None
 
 -- whether the first word has this name
 unfoldable pub begins : ElementName → List (List ℕ) → Bool
 begins e [] = false
-begins e (w ∷ ws) = bytes_eq (name_in w) (field_name e)
-
--- an answer with a place in a text, by the words from that place on
-abbrev pub in_words : {A : Type 0} → List ℕ → Result (A × ℕ) TextFault → Heard A
-in_words text (Ok p) = Ok (p.0, words (drop p.1 text))
-in_words text (Err e) = Err e
+begins e (w ∷ ws) = is_field e w

@@ -2,7 +2,7 @@
 ghost use Rattle.std.specs.Prelude.{◌≡◌};
 ghost use Rattle.field_text.specs.Faults.{text_fault_number};
 
-#[derive(Clone, Copy)]
+#[derive(Clone, Copy, PartialEq, Eq, Debug)]
 pub enum TextFault {
     // a name is unknown, or a field is missing, out of order, too many, no number or outside its width
     Unreadable,
@@ -10,11 +10,11 @@ pub enum TextFault {
     NotListed,
 }
 
-impl TextFault {
-    pub fn number(self) -> u8
-        ensures { result ≡ text_fault_number self }
-    {
-        match self {
+impl From<TextFault> for u8 {
+    ghost from_gives = { λ fault n. n ≡ text_fault_number fault };
+
+    fn from(fault: TextFault) -> u8 {
+        match fault {
             TextFault::Unreadable => 1,
             TextFault::NotListed => 14,
         }

@@ -6,5 +6,5 @@ pub mod field;
 pub mod names;
 
 pub use fault::TextFault;
-pub use field::{next_is, read_field, word_at, write_field};
+pub use field::{field_value, is_field, write_field};
 pub use names::field_name;

@@ -4,6 +4,7 @@ ghost use Rattle.field_text.specs.Names.{field_name};
 
 use bits::ElementName;
 
+// A function: the type is another crate's, so no `Display` can be added here.
 pub fn field_name(element: ElementName) -> &'static str
     ensures { result.now ≡ field_name element }
 {

@@ -1,15 +1,21 @@
 // The values that both offices, the links and the codec share.
 #![tactic(auto)]
 
+pub mod call;
+pub mod field;
+pub mod identity;
 pub mod key;
+pub mod kinds;
 pub mod making;
 pub mod marking;
+pub mod numbering;
 pub mod refusal;
-pub mod values;
 
-pub use key::{CallAttributes, Key};
+pub use call::CallAttributes;
+pub use field::{
+    AreaSelection, CallIdentifier, Extension, Field, Identifier, Identity, Priority, Service, Ssi,
+};
+pub use key::Key;
+pub use kinds::Kind;
 pub use marking::busy_mark;
 pub use refusal::{HandedBack, Refusal};
-pub use values::{
-    AreaSelection, CallIdentifier, Extension, Identifier, Identity, Priority, Service, Ssi,
-};

@@ -4,7 +4,8 @@ ghost use Rattle.fields.specs.Marking.{mark_of};
 
 use crate::refusal::Refusal;
 
-// Whether the mark says busy: 1 does, and 0 says free.
+// Whether the mark says busy: 1 does, and 0 says free. A function, since no conversion to the
+// language's own `bool` can be added here.
 pub fn busy_mark(mark: u64) -> Result<bool, Refusal>
     ensures { result ≡ mark_of mark }
 {

@@ -1,6 +1,4 @@
 // Why a call is refused.
-ghost use Rattle.std.specs.Prelude.{◌≡◌};
-ghost use Rattle.fields.specs.Refusals.{refusal_number};
 
 #[derive(Clone, Copy, PartialEq, Eq, Debug)]
 pub enum Refusal {
@@ -34,30 +32,6 @@ pub enum Refusal {
     SettingNotAllowed,
     // no memory can be had
     NoMemory,
-}
-
-impl Refusal {
-    pub fn number(self) -> u8
-        ensures { result ≡ refusal_number self }
-    {
-        match self {
-            Refusal::OutsideField => 1,
-            Refusal::UnknownParty => 2,
-            Refusal::NotRetained => 3,
-            Refusal::LimitReached => 4,
-            Refusal::TableFull => 5,
-            Refusal::IdentifiersHeld => 6,
-            Refusal::NotAllowed => 7,
-            Refusal::LinkFull => 8,
-            Refusal::NothingThere => 9,
-            Refusal::PartyBusy => 10,
-            Refusal::ClockOutOfRange => 11,
-            Refusal::NumbersUsedUp => 12,
-            Refusal::TooLittleRoom => 16,
-            Refusal::SettingNotAllowed => 17,
-            Refusal::NoMemory => 23,
-        }
-    }
 }
 
 // A refusal that gives back what was handed in.

@@ -1,5 +1,5 @@
 -- The fields of a number are those that it was packed from, and the other way about.
-use Rattle.std.proofs.Common.{◌≡◌, ℕ, suc, ◌+◌, ◌*◌, ◌/◌, ◌%◌, ◌^◌, ◌<◌, List, [], ◌∷◌, length, get_or, replicate, sym, refl, ap, ◌∙◌, mod-eq_of_lt, mul_assoc, arith, pow_pos, pow-add}
+use Rattle.std.proofs.Common.{◌≡◌, ℕ, ◌+◌, ◌*◌, ◌/◌, ◌%◌, ◌^◌, ◌<◌, List, [], ◌∷◌, sym, refl, ap, ◌∙◌, mod-eq_of_lt, mul_assoc, arith, pow_pos, pow-add}
 use native.Mathlib.Nat.{mul-add-div_right, mul-add-mod_self_right}
 use lib.Arith.{digits_lt, digits_div, mod-mul}
 use Rattle.frame.specs.Layout.{total, packed, split, Within}
@@ -35,17 +35,3 @@ packed-low (w ∷ ws) n =
 
 pub packed-split : (ws : List ℕ) (n : ℕ) → n < 2 ^ total ws → packed ws (split ws n) ≡ n
 packed-split ws n h = packed-low ws n ∙ mod-eq_of_lt h
-
--- the packed number of values that are read one by one
-abbrev pub weighed : List ℕ → (ℕ → ℕ) → ℕ
-weighed [] at = 0
-weighed (w ∷ ws) at = at 0 * 2 ^ total ws + weighed ws (λ k. at (suc k))
-
-pub packed-weighed : (ws vs : List ℕ) → length vs ≡ length ws → packed ws vs ≡ weighed ws (λ k. get_or vs k 0)
-packed-weighed [] vs h = refl
-packed-weighed (w ∷ ws) [] h = absurd (omega arith)
-packed-weighed (w ∷ ws) (v ∷ vs) h = ap (λ m. v * 2 ^ total ws + m) (packed-weighed ws vs (omega arith))
-
-pub within-alike : (w : ℕ) (vs : List ℕ) → ((k : ℕ) → get_or vs k 0 < 2 ^ w) → Within (replicate (length vs) w) vs
-within-alike w [] h = tt
-within-alike w (v ∷ vs) h = (h 0, within-alike w vs (λ k. h (suc k)))

@@ -1,10 +1,9 @@
 -- A message in fifteen bytes.
-use Rattle.std.specs.Prelude.{◌≡◌, ℕ, List, [], ◌∷◌, replicate, Result, MatchResult, ◌≢◌, slice_index}
+use Rattle.std.specs.Prelude.{◌≡◌, ℕ, List, [], ◌∷◌, replicate, Result, MatchResult, ◌≢◌}
 use Rattle.fields.specs.declared.refusal.Refusal.{Refusal}
 use Rattle.fields.specs.declared.refusal.Refusal.TheVariants.{OutsideField}
 use Rattle.link.specs.declared.message.Message.{Message}
-use Rattle.link.specs.declared.message.PlainMessage.{PlainMessage}
-use Rattle.link.specs.Messages.{plain_of, message_of}
+use Rattle.link.specs.Messages.{plain_of, listed, unlisted, message_of}
 use Rattle.frame.specs.Layout.{packed, split}
 
 -- kind, identifier, SSI and extension of the caller, those of the called party, priority, service, cause
@@ -14,24 +13,6 @@ layout = 4 ∷ 3 ∷ 24 ∷ 24 ∷ 24 ∷ 24 ∷ 4 ∷ 8 ∷ 5 ∷ []
 -- the fifteen bytes
 abbrev pub octets : List ℕ
 octets = replicate 15 8
-
--- a message's fields in the order of the layout
-abbrev pub listed : PlainMessage → List ℕ
-listed p =
-    p.kind ∷ p.identifier ∷ p.caller_ssi ∷ p.caller_extension ∷ p.called_ssi ∷ p.called_extension ∷ p.priority ∷ p.service ∷ p.cause ∷ []
-
-abbrev pub unlisted : List ℕ → PlainMessage
-unlisted vs = record {
-  kind = slice_index vs 0;
-  identifier = slice_index vs 1;
-  caller_ssi = slice_index vs 2;
-  caller_extension = slice_index vs 3;
-  called_ssi = slice_index vs 4;
-  called_extension = slice_index vs 5;
-  priority = slice_index vs 6;
-  service = slice_index vs 7;
-  cause = slice_index vs 8;
-}
 
 abbrev pub frame_of : Message → List ℕ
 frame_of m = split octets (packed layout (listed (plain_of m)))

@@ -2,4 +2,3 @@ pub mod Frames
 pub mod Layout
 pub mod Outside
 pub mod Rows
-pub mod Trunks

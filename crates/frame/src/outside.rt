@@ -1,7 +1,8 @@
 // Frames that come from outside.
 ghost use Rattle.std.specs.Prelude.{◌≡◌};
+ghost use Rattle.link.specs.Links.{queue_of};
 ghost use Rattle.frame.specs.Frames.{read_of};
-ghost use Rattle.frame.specs.Outside.{handed_answer, handed_list};
+ghost use Rattle.frame.specs.Outside.{handed_answer, handed};
 
 use crate::message;
 use fields::Refusal;
@@ -9,10 +10,8 @@ use link::Link;
 
 // Sends the message that the frame holds, on a link of any make.
 pub fn send_frame<L: Link>(link: &mut L, frame: [u8; 15]) -> Result<(), Refusal>
-    ensures answer { result ≡ handed_answer (L.capacity link.old) (L.waiting link.old) (read_of frame) }
-    ensures list { L.waiting link.new ≡ handed_list (L.capacity link.old) (L.waiting link.old) (read_of frame) }
-    ensures room { L.capacity link.new ≡ L.capacity link.old }
+    ensures answer { result ≡ handed_answer (queue_of L.Link link.old) (read_of frame) }
+    ensures queue { queue_of L.Link link.new ≡ handed (queue_of L.Link link.old) (read_of frame) }
 {
-    let sent = message(frame)?;
-    link.send(sent)
+    link.send(message(frame)?)
 }

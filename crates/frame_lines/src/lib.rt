@@ -2,11 +2,10 @@
 #![tactic(auto)]
 
 pub mod answering;
-pub mod lines;
-pub mod reading;
+pub mod names;
+pub mod reply;
 pub mod writing;
 
-pub use answering::answer;
-pub use lines::{Line, Reply};
-pub use reading::read_line;
+pub use answering::{answer, replied};
+pub use reply::Reply;
 pub use writing::write_reply;

@@ -1,2 +1,2 @@
-pub mod Spelling
 pub mod Turns
+pub mod Spelling

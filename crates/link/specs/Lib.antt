@@ -1,5 +1,7 @@
 pub mod Bounds
-pub mod Making
+pub mod Links
 pub mod Messages
+pub mod Places
 pub mod Queue
 pub mod Ring
+pub mod Rings

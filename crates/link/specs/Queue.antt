@@ -4,6 +4,11 @@ use Rattle.fields.specs.declared.refusal.Refusal.{Refusal}
 use Rattle.fields.specs.declared.refusal.Refusal.TheVariants.{LinkFull, NothingThere}
 use Rattle.link.specs.declared.message.Message.{Message}
 
+-- how many messages a link has room for, and those that wait, oldest first
+pub record Queue : Type 0 where
+  pub capacity : ℕ
+  pub waiting : List Message
+
 -- a link has room for 1 to 4,096 messages, and never more wait than it has room for
 abbrev pub Bounded : ℕ → List Message → Type 0
 Bounded c ms = (1 ≤ c) × (c ≤ 4096) × (length ms ≤ c)
@@ -29,3 +34,11 @@ first_answer (m ∷ ms) = Ok m
 abbrev pub take_list : List Message → List Message
 take_list [] = []
 take_list (m ∷ ms) = ms
+
+-- the queue once the message is sent
+abbrev pub sent : Queue → Message → Queue
+sent q m = record q { waiting = send_list q.capacity q.waiting m }
+
+-- the queue once the oldest message is taken
+abbrev pub taken : Queue → Queue
+taken q = record q { waiting = take_list q.waiting }

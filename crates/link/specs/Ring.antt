@@ -1,6 +1,6 @@
 -- Places that are used in turn, the first again after the last.
-use Rattle.std.specs.Prelude.{ℕ, zero, suc, ◌+◌, ◌-◌, cond, List, [], ◌∷◌, nat_le, slice_index_or}
-use Rattle.std.proofs.Common.{arith}
+use Rattle.std.specs.Prelude.{◌≡◌, ℕ, zero, suc, ◌+◌, ◌-◌, true, cond, List, [], ◌∷◌, replicate, Option, is_some, unwrap_or, nat_le}
+use Rattle.fields.specs.Values.{identifier_of, identity_of}
 use Rattle.link.specs.declared.message.Kind.TheVariants.{LetGo}
 use Rattle.link.specs.declared.message.Message.{Message}
 
@@ -18,12 +18,16 @@ abbrev pub nobody : Message
 nobody = record {
   kind = LetGo;
   key = record {
-    identifier = record { bits = 0; fits = omega arith };
-    caller = record { bits = 0; fits = omega arith };
-    called = record { bits = 0; fits = omega arith };
+    identifier = identifier_of 0;
+    caller = identity_of 0;
+    called = identity_of 0;
   };
 }
 
--- the n messages from place i on
-abbrev pub shelved : ℕ → List Message → ℕ → ℕ → List Message
-shelved c ms i n = ring c (λ k. slice_index_or ms k nobody) i n
+-- the messages in the n places from place i on, of c that hold what `held` says
+abbrev pub waiting_in : ℕ → (ℕ → Option Message) → ℕ → ℕ → List Message
+waiting_in c held i n = ring c (λ k. unwrap_or (held k) nobody) i n
+
+-- each of these places holds a message
+abbrev pub Whole : ℕ → (ℕ → Option Message) → ℕ → ℕ → Type 0
+Whole c held i n = ring c (λ k. is_some (held k)) i n ≡ replicate n true

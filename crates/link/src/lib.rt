@@ -8,13 +8,19 @@ ghost use Rattle.link.specs.Queue.{Bounded, send_answer, send_list, first_answer
 use fields::Refusal;
 
 pub mod message;
+pub mod places;
 pub mod plain;
 pub mod ring;
-pub mod shelf;
 
-pub use message::{Kind, Message, NoCause, PlainMessage};
-pub use shelf::Shelf;
+pub use message::{Kind, Message, NoCause, PlainKey, PlainKind, PlainMessage, PlainParty};
+pub use places::Places;
+pub use ring::Ring;
 
+// The shelf keeps messages as records, in places that its maker hands over.
+pub type Shelf = Ring<Vec<Message>>;
+
+// A make of link says what waits and how many may; callers that speak of both say `queue_of`.
+// Each function has its contract here, for any make.
 pub trait Link {
     // The messages that wait, oldest first.
     ghost waiting: { Self → List Sent };

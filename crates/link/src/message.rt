@@ -33,17 +33,32 @@ pub struct Message {
     pub key: Key,
 }
 
-// A message's fields as plain numbers, in the order in which a frame has them.
-// Those that the kind does not use are 0.
+// A party's halves as plain numbers.
 #[derive(Clone, Copy, PartialEq, Eq, Debug)]
-pub struct PlainMessage {
-    pub kind: u64,
+pub struct PlainParty {
+    pub ssi: u64,
+    pub extension: u64,
+}
+
+#[derive(Clone, Copy, PartialEq, Eq, Debug)]
+pub struct PlainKey {
     pub identifier: u64,
-    pub caller_ssi: u64,
-    pub caller_extension: u64,
-    pub called_ssi: u64,
-    pub called_extension: u64,
+    pub caller: PlainParty,
+    pub called: PlainParty,
+}
+
+// A kind's number and what it carries. What it does not use is 0.
+#[derive(Clone, Copy, PartialEq, Eq, Debug)]
+pub struct PlainKind {
+    pub number: u64,
     pub priority: u64,
     pub service: u64,
     pub cause: u64,
+}
+
+// A message as plain numbers, which may be those of no message.
+#[derive(Clone, Copy, PartialEq, Eq, Debug)]
+pub struct PlainMessage {
+    pub kind: PlainKind,
+    pub key: PlainKey,
 }

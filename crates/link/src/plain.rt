@@ -1,17 +1,17 @@
 // Messages from and to plain numbers.
-ghost use Rattle.std.specs.Prelude.{◌≡◌, Ok};
-ghost use Rattle.link.specs.Messages.{cause_number, kind_numbers, plain_of, party_of, key_of, attributes_of, kind_of, message_of, Spelt};
+ghost use Rattle.std.specs.Prelude.{◌≡◌};
+ghost use Rattle.link.specs.Messages.{cause_number, plain_party, plain_key, plain_kind, cause_of, party_of, key_of, kind_of, listed, unlisted, IsWrittenAs, IsReadAs};
 
-use crate::message::{Kind, Message, NoCause, PlainMessage};
+use crate::message::{Kind, Message, NoCause, PlainKey, PlainKind, PlainMessage, PlainParty};
 use fields::{
     CallAttributes, Extension, Identifier, Identity, Key, Priority, Refusal, Service, Ssi,
 };
 
-impl NoCause {
-    pub fn number(self) -> u8
-        ensures { result ≡ cause_number self }
-    {
-        match self {
+impl From<NoCause> for u64 {
+    ghost from_gives = { λ cause n. n ≡ cause_number cause };
+
+    fn from(cause: NoCause) -> u64 {
+        match cause {
             NoCause::NoSuchLine => 1,
             NoCause::OtherService => 2,
             NoCause::QueueFull => 3,
@@ -20,122 +20,219 @@ impl NoCause {
     }
 }
 
-impl Kind {
-    // Its number, its priority, its service and its cause, 0 where it has none.
-    fn numbers(self) -> (u8, u8, u8, u8)
-        ensures { result ≡ kind_numbers self }
-    {
-        match self {
-            Kind::Monitor(call) => (1, call.priority.bits, call.service.bits, 0),
-            Kind::Suspend => (2, 0, 0, 0),
-            Kind::Resume => (3, 0, 0, 0),
-            Kind::Setup => (4, 0, 0, 0),
-            Kind::Close => (5, 0, 0, 0),
-            Kind::Yes => (8, 0, 0, 0),
-            Kind::No(cause) => (9, 0, 0, cause.number()),
-            Kind::Free => (10, 0, 0, 0),
-            Kind::BusyAgain => (11, 0, 0, 0),
-            Kind::Connected => (12, 0, 0, 0),
-            Kind::Failed => (13, 0, 0, 0),
-            Kind::LetGo => (14, 0, 0, 0),
+impl TryFrom<u64> for NoCause {
+    type Error = Refusal;
+
+    ghost try_from_gives = { λ n r. r ≡ cause_of n };
+
+    fn try_from(number: u64) -> Result<NoCause, Refusal> {
+        match number {
+            1 => Ok(NoCause::NoSuchLine),
+            2 => Ok(NoCause::OtherService),
+            3 => Ok(NoCause::QueueFull),
+            4 => Ok(NoCause::TableFull),
+            _ => Err(Refusal::OutsideField),
         }
     }
 }
 
-// The kind with these numbers.
-fn kind_of(kind: u64, call: CallAttributes, cause: u64) -> Result<Kind, Refusal>
-    ensures { result ≡ kind_of kind call cause }
+// A kind that carries nothing.
+fn bare(number: u64) -> PlainKind
+    ensures { result ≡ record { number = number; priority = 0; service = 0; cause = 0 } }
 {
-    match (kind, call.priority.bits, call.service.bits, cause) {
-        (1, _, _, 0) => Ok(Kind::Monitor(call)),
-        (2, 0, 0, 0) => Ok(Kind::Suspend),
-        (3, 0, 0, 0) => Ok(Kind::Resume),
-        (4, 0, 0, 0) => Ok(Kind::Setup),
-        (5, 0, 0, 0) => Ok(Kind::Close),
-        (8, 0, 0, 0) => Ok(Kind::Yes),
-        (9, 0, 0, 1) => Ok(Kind::No(NoCause::NoSuchLine)),
-        (9, 0, 0, 2) => Ok(Kind::No(NoCause::OtherService)),
-        (9, 0, 0, 3) => Ok(Kind::No(NoCause::QueueFull)),
-        (9, 0, 0, 4) => Ok(Kind::No(NoCause::TableFull)),
-        (10, 0, 0, 0) => Ok(Kind::Free),
-        (11, 0, 0, 0) => Ok(Kind::BusyAgain),
-        (12, 0, 0, 0) => Ok(Kind::Connected),
-        (13, 0, 0, 0) => Ok(Kind::Failed),
-        (14, 0, 0, 0) => Ok(Kind::LetGo),
-        _ => Err(Refusal::OutsideField),
+    PlainKind {
+        number,
+        priority: 0,
+        service: 0,
+        cause: 0,
     }
 }
 
-fn party_of(ssi: u64, extension: u64) -> Result<Identity, Refusal>
-    ensures { result ≡ party_of ssi extension }
-{
-    let ssi = Ssi::new(ssi)?;
-    let extension = Extension::new(extension)?;
-    Ok(Identity::of(ssi, extension))
-}
+impl From<Kind> for PlainKind {
+    ghost from_gives = { λ kind plain. plain ≡ plain_kind kind };
 
-fn key_of(plain: PlainMessage) -> Result<Key, Refusal>
-    ensures { result ≡ key_of plain }
-{
-    let identifier = Identifier::new(plain.identifier)?;
-    let caller = party_of(plain.caller_ssi, plain.caller_extension)?;
-    let called = party_of(plain.called_ssi, plain.called_extension)?;
-    Ok(Key {
-        identifier,
-        caller,
-        called,
-    })
-}
-
-fn attributes_of(plain: PlainMessage) -> Result<CallAttributes, Refusal>
-    ensures { result ≡ attributes_of plain }
-{
-    let priority = Priority::new(plain.priority)?;
-    let service = Service::new(plain.service)?;
-    Ok(CallAttributes { priority, service })
-}
-
-fn write(message: Message) -> PlainMessage
-    ensures { result ≡ plain_of message }
-{
-    let (kind, priority, service, cause) = message.kind.numbers();
-    let (caller_ssi, caller_extension) = message.key.caller.parts();
-    let (called_ssi, called_extension) = message.key.called.parts();
-    PlainMessage {
-        kind: u64::from(kind),
-        identifier: u64::from(message.key.identifier.bits),
-        caller_ssi: u64::from(caller_ssi.bits),
-        caller_extension: u64::from(caller_extension.bits),
-        called_ssi: u64::from(called_ssi.bits),
-        called_extension: u64::from(called_extension.bits),
-        priority: u64::from(priority),
-        service: u64::from(service),
-        cause: u64::from(cause),
+    fn from(kind: Kind) -> PlainKind {
+        match kind {
+            Kind::Monitor(call) => PlainKind {
+                number: 1,
+                priority: call.priority.bits,
+                service: call.service.bits,
+                cause: 0,
+            },
+            Kind::Suspend => bare(2),
+            Kind::Resume => bare(3),
+            Kind::Setup => bare(4),
+            Kind::Close => bare(5),
+            Kind::Yes => bare(8),
+            Kind::No(cause) => PlainKind {
+                cause: u64::from(cause),
+                ..bare(9)
+            },
+            Kind::Free => bare(10),
+            Kind::BusyAgain => bare(11),
+            Kind::Connected => bare(12),
+            Kind::Failed => bare(13),
+            Kind::LetGo => bare(14),
+        }
     }
 }
 
-fn read(plain: PlainMessage) -> Result<Message, Refusal>
-    ensures { result ≡ message_of plain }
-{
-    let key = key_of(plain)?;
-    let call = attributes_of(plain)?;
-    let kind = kind_of(plain.kind, call, plain.cause)?;
-    Ok(Message { kind, key })
+impl TryFrom<PlainKind> for Kind {
+    type Error = Refusal;
+
+    ghost try_from_gives = { λ plain r. r ≡ kind_of plain };
+
+    fn try_from(plain: PlainKind) -> Result<Kind, Refusal> {
+        let priority = Priority::try_from(plain.priority)?;
+        let service = Service::try_from(plain.service)?;
+        match (plain.number, plain.priority, plain.service, plain.cause) {
+            (1, _, _, 0) => Ok(Kind::Monitor(CallAttributes { priority, service })),
+            (2, 0, 0, 0) => Ok(Kind::Suspend),
+            (3, 0, 0, 0) => Ok(Kind::Resume),
+            (4, 0, 0, 0) => Ok(Kind::Setup),
+            (5, 0, 0, 0) => Ok(Kind::Close),
+            (8, 0, 0, 0) => Ok(Kind::Yes),
+            (9, 0, 0, cause) => Ok(Kind::No(NoCause::try_from(cause)?)),
+            (10, 0, 0, 0) => Ok(Kind::Free),
+            (11, 0, 0, 0) => Ok(Kind::BusyAgain),
+            (12, 0, 0, 0) => Ok(Kind::Connected),
+            (13, 0, 0, 0) => Ok(Kind::Failed),
+            (14, 0, 0, 0) => Ok(Kind::LetGo),
+            _ => Err(Refusal::OutsideField),
+        }
+    }
 }
 
-impl Message {
-    pub fn plain(self) -> PlainMessage
-        ensures value { result ≡ plain_of self }
-        ensures reads_back { message_of result ≡ Ok self }
-    {
-        write(self)
-    }
+impl From<Identity> for PlainParty {
+    ghost from_gives = { λ party plain. plain ≡ plain_party party };
 
-    // Refuses what no message has.
-    pub fn from_plain(plain: PlainMessage) -> Result<Message, Refusal>
-        ensures value { result ≡ message_of plain }
-        ensures exact { Spelt plain result }
-    {
-        read(plain)
+    fn from(party: Identity) -> PlainParty {
+        let (ssi, extension) = party.parts();
+        PlainParty {
+            ssi: ssi.bits,
+            extension: extension.bits,
+        }
+    }
+}
+
+impl TryFrom<PlainParty> for Identity {
+    type Error = Refusal;
+
+    ghost try_from_gives = { λ plain r. r ≡ party_of plain };
+
+    fn try_from(plain: PlainParty) -> Result<Identity, Refusal> {
+        let ssi = Ssi::try_from(plain.ssi)?;
+        let extension = Extension::try_from(plain.extension)?;
+        Ok(Identity::of(ssi, extension))
+    }
+}
+
+impl From<Key> for PlainKey {
+    ghost from_gives = { λ key plain. plain ≡ plain_key key };
+
+    fn from(key: Key) -> PlainKey {
+        PlainKey {
+            identifier: key.identifier.bits,
+            caller: PlainParty::from(key.caller),
+            called: PlainParty::from(key.called),
+        }
+    }
+}
+
+impl TryFrom<PlainKey> for Key {
+    type Error = Refusal;
+
+    ghost try_from_gives = { λ plain r. r ≡ key_of plain };
+
+    fn try_from(plain: PlainKey) -> Result<Key, Refusal> {
+        Ok(Key {
+            identifier: Identifier::try_from(plain.identifier)?,
+            caller: Identity::try_from(plain.caller)?,
+            called: Identity::try_from(plain.called)?,
+        })
+    }
+}
+
+impl From<Message> for PlainMessage {
+    ghost from_gives = { IsWrittenAs };
+
+    fn from(message: Message) -> PlainMessage {
+        PlainMessage {
+            kind: PlainKind::from(message.kind),
+            key: PlainKey::from(message.key),
+        }
+    }
+}
+
+// Refuses what no message has.
+impl TryFrom<PlainMessage> for Message {
+    type Error = Refusal;
+
+    ghost try_from_gives = { IsReadAs };
+
+    fn try_from(plain: PlainMessage) -> Result<Message, Refusal> {
+        Ok(Message {
+            kind: Kind::try_from(plain.kind)?,
+            key: Key::try_from(plain.key)?,
+        })
+    }
+}
+
+// The fields in the order in which a frame has them.
+impl From<PlainMessage> for [u64; 9] {
+    ghost from_gives = { λ plain fields. fields ≡ listed plain };
+
+    fn from(plain: PlainMessage) -> [u64; 9] {
+        let PlainMessage { kind, key } = plain;
+        [
+            kind.number,
+            key.identifier,
+            key.caller.ssi,
+            key.caller.extension,
+            key.called.ssi,
+            key.called.extension,
+            kind.priority,
+            kind.service,
+            kind.cause,
+        ]
+    }
+}
+
+impl From<[u64; 9]> for PlainMessage {
+    ghost from_gives = { λ fields plain. plain ≡ unlisted fields };
+
+    fn from(fields: [u64; 9]) -> PlainMessage {
+        let [
+            number,
+            identifier,
+            caller_ssi,
+            caller_extension,
+            called_ssi,
+            called_extension,
+            priority,
+            service,
+            cause,
+        ] = fields;
+        let caller = PlainParty {
+            ssi: caller_ssi,
+            extension: caller_extension,
+        };
+        let called = PlainParty {
+            ssi: called_ssi,
+            extension: called_extension,
+        };
+        PlainMessage {
+            kind: PlainKind {
+                number,
+                priority,
+                service,
+                cause,
+            },
+            key: PlainKey {
+                identifier,
+                caller,
+                called,
+            },
+        }
     }
 }

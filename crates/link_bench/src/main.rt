@@ -2,19 +2,50 @@
 // 4,096 messages waiting, and tells the ratio of the two.
 #![tactic(auto)]
 
-use fields::{Identifier, Identity, Key, Refusal};
-use frame::Trunk;
+use fields::{HandedBack, Identifier, Identity, Key, Refusal};
+use frame::{Frames, Trunk};
 use link::{Kind, Link, Message, NoCause, Shelf};
+use std::alloc::AllocError;
 use std::io;
 use std::time::Instant;
 
 const TURNS: u64 = 1_000_000;
 
+#[derive(Debug, Drop)]
+enum Failed {
+    Io(io::Error),
+    Refused(Refusal),
+}
+
+impl From<io::Error> for Failed {
+    fn from(error: io::Error) -> Failed {
+        Failed::Io(error)
+    }
+}
+
+impl From<AllocError> for Failed {
+    fn from(error: AllocError) -> Failed {
+        Failed::Io(error.into())
+    }
+}
+
+impl From<Refusal> for Failed {
+    fn from(refusal: Refusal) -> Failed {
+        Failed::Refused(refusal)
+    }
+}
+
+impl<P: Drop> From<HandedBack<P>> for Failed {
+    fn from(back: HandedBack<P>) -> Failed {
+        Failed::Refused(back.refusal)
+    }
+}
+
 fn numbered(n: u64) -> Result<Message, Refusal> {
     let key = Key {
-        identifier: Identifier::new(n % 8)?,
-        caller: Identity::new(n % (1 << 48))?,
-        called: Identity::new(n.wrapping_mul(3) % (1 << 48))?,
+        identifier: Identifier::try_from(n % 8)?,
+        caller: Identity::try_from(n % (1 << 48))?,
+        called: Identity::try_from(n.wrapping_mul(3) % (1 << 48))?,
     };
     let kind = if n % 4 == 0 {
         Kind::No(NoCause::QueueFull)
@@ -31,7 +62,8 @@ fn fill<L: Link>(link: &mut L, waiting: u64) -> Result<(), Refusal> {
     Ok(())
 }
 
-// The sum of the callers taken, so that no turn can be left out.
+// The sum of the callers taken, so that no turn can be left out. A fold would hide that the link
+// changes at each turn.
 fn turns<L: Link>(link: &mut L) -> Result<u64, Refusal> {
     let mut sum = 0u64;
     for n in 0..TURNS {
@@ -42,52 +74,39 @@ fn turns<L: Link>(link: &mut L) -> Result<u64, Refusal> {
     Ok(sum)
 }
 
-// The nanoseconds that the turns take, and the sum of the callers taken.
-fn timed<L: Link>(rt: &HostRuntime, link: &mut L) -> io::Result<(u128, Result<u64, Refusal>)> {
+// Times the link, says so, and answers the nanoseconds.
+fn measured<L: Link>(
+    rt: &HostRuntime,
+    name: &str,
+    link: &mut L,
+    waiting: u64,
+) -> Result<u128, Failed> {
+    fill(link, waiting)?;
     let start = Instant::now(rt)?;
-    let sum = turns(link);
-    let taken = start.elapsed(rt)?;
-    Ok((taken.as_nanos(), sum))
-}
-
-// Times one link as it stands, says so, and answers the nanoseconds.
-fn measured<L: Link>(rt: &HostRuntime, name: &str, link: &mut L, waiting: u64) -> io::Result<u128> {
-    let filled = fill(link, waiting);
-    let (nanos, sum) = timed(rt, link)?;
-    match (filled, sum) {
-        (Ok(()), Ok(sum)) => eprintln!(rt; "{name}, {waiting} waiting: {nanos} ns, sum {sum}")?,
-        _ => eprintln!(rt; "{name}, {waiting} waiting: refused")?,
-    }
+    let sum = turns(link)?;
+    let nanos = start.elapsed(rt)?.as_nanos();
+    eprintln!(rt; "{name}, {waiting} waiting: {nanos} ns, sum {sum}")?;
     Ok(nanos)
 }
 
-fn ratio(rt: &HostRuntime, name: &str, few: u128, many: u128) -> io::Result<()> {
+fn ratio(rt: &HostRuntime, name: &str, few: u128, many: u128) -> Result<(), Failed> {
     let percent = many.saturating_mul(100) / few.max(1);
-    eprintln!(rt; "{name}: 4096 waiting take {percent} % of the time with 8")
+    eprintln!(rt; "{name}: 4096 waiting take {percent} % of the time with 8")?;
+    Ok(())
 }
 
-fn shelf(rt: &HostRuntime, waiting: u64) -> io::Result<u128> {
-    let Ok(empty) = numbered(0) else {
-        return Ok(0);
-    };
-    match Shelf::new(vec![in rt.alloc(); empty; 4096]?) {
-        Ok(mut shelf) => measured(rt, "shelf", &mut shelf, waiting),
-        Err(_) => Ok(0),
-    }
+// A function for each link: made by a closure, a shelf is timed half as long again.
+fn shelf(rt: &HostRuntime, waiting: u64) -> Result<u128, Failed> {
+    let mut shelf = Shelf::new(vec![in rt.alloc(); numbered(0)?; 4096]?)?;
+    measured(rt, "shelf", &mut shelf, waiting)
 }
 
-fn trunk(rt: &HostRuntime, waiting: u64) -> io::Result<u128> {
-    match Trunk::new(vec![in rt.alloc(); 0u8; 61440]?) {
-        Ok(mut trunk) => measured(rt, "trunk", &mut trunk, waiting),
-        Err(_) => Ok(0),
-    }
+fn trunk(rt: &HostRuntime, waiting: u64) -> Result<u128, Failed> {
+    let mut trunk = Trunk::new(Frames(vec![in rt.alloc(); 0u8; 61440]?))?;
+    measured(rt, "trunk", &mut trunk, waiting)
 }
 
-fn main(rt: HostRuntime) -> io::Result<()> {
-    let few = shelf(&rt, 8)?;
-    let many = shelf(&rt, 4096)?;
-    ratio(&rt, "shelf", few, many)?;
-    let few = trunk(&rt, 8)?;
-    let many = trunk(&rt, 4096)?;
-    ratio(&rt, "trunk", few, many)
+fn main(rt: HostRuntime) -> Result<(), Failed> {
+    ratio(&rt, "shelf", shelf(&rt, 8)?, shelf(&rt, 4096)?)?;
+    ratio(&rt, "trunk", trunk(&rt, 8)?, trunk(&rt, 4096)?)
 }

@@ -4,18 +4,19 @@
 #[cfg(test)]
 mod tests {
     use fields::{CallAttributes, Identifier, Identity, Key, Priority, Refusal, Service};
-    use frame::{Trunk, frame, message, send_frame};
-    use link::{Kind, Link, Message, Shelf, is_empty};
+    use frame::{Frames, Trunk, frame, message, send_frame};
+    use link::{Kind, Link, Message, Places, Ring, Shelf, is_empty};
     use std::process::Abort;
     use std::test::Fail;
 
     const SAMPLE: [u8; 15] = [0x12, 0, 0, 2, 0, 0, 0, 0, 0, 4, 0, 0, 0, 0x60, 0xa0];
 
+    // As in `pdu_tests` and not shared: a crate for one function would be no plainer.
     fn key(caller: u64) -> Result<Key, Refusal> {
         Ok(Key {
-            identifier: Identifier::new(1)?,
-            caller: Identity::new(caller)?,
-            called: Identity::new(2 << 24)?,
+            identifier: Identifier::try_from(1)?,
+            caller: Identity::try_from(caller)?,
+            called: Identity::try_from(2 << 24)?,
         })
     }
 
@@ -28,8 +29,8 @@ mod tests {
 
     fn sample() -> Result<Message, Refusal> {
         let call = CallAttributes {
-            priority: Priority::new(3)?,
-            service: Service::new(5)?,
+            priority: Priority::try_from(3)?,
+            service: Service::try_from(5)?,
         };
         Ok(Message {
             kind: Kind::Monitor(call),
@@ -48,72 +49,68 @@ mod tests {
         Ok(())
     }
 
-    // Fills a link of two places and empties it, again and again.
-    fn goes_round<L: Link>(rt: &impl Abort, link: &mut L) -> Result<(), Fail> {
+    // Fills a link of two places and empties it, again and again, and answers its places.
+    fn goes_round<P: Places + Drop>(rt: &impl Abort, places: P) -> Result<P, Fail> {
+        let Ok(mut link) = Ring::new(places) else {
+            return Err(Fail::new("no link"));
+        };
         assert_eq!(rt; link.free(), 2);
         for n in 1..6 {
-            assert!(rt; is_empty(link));
-            sends(link, n)?;
-            sends(link, n + 100)?;
+            assert!(rt; is_empty(&link));
+            sends(&mut link, n)?;
+            sends(&mut link, n + 100)?;
             assert_eq!(rt; link.send(numbered(9)?), Err(Refusal::LinkFull));
             assert_eq!(rt; link.free(), 0);
-            takes(rt, link, n)?;
-            sends(link, n + 200)?;
-            takes(rt, link, n + 100)?;
-            takes(rt, link, n + 200)?;
+            takes(rt, &mut link, n)?;
+            sends(&mut link, n + 200)?;
+            takes(rt, &mut link, n + 100)?;
+            takes(rt, &mut link, n + 200)?;
             assert_eq!(rt; link.take(), Err(Refusal::NothingThere));
         }
-        Ok(())
+        Ok(link.into_places())
     }
 
     #[test]
     fn shelf_goes_round(rt: HostRuntime) -> Result<(), Fail> {
-        let Ok(mut shelf) = Shelf::new(vec![in rt.alloc(); numbered(0)?; 2]?) else {
-            return Err(Fail::new("no shelf"));
-        };
-        goes_round(&rt, &mut shelf)
+        let places = goes_round(&rt, vec![in rt.alloc(); numbered(0)?; 2]?)?;
+        assert_eq!(rt; places.len(), 2);
+        Ok(())
     }
 
     #[test]
     fn trunk_goes_round(rt: HostRuntime) -> Result<(), Fail> {
-        let Ok(mut trunk) = Trunk::new(vec![in rt.alloc(); 255u8; 37]?) else {
-            return Err(Fail::new("no trunk"));
-        };
-        goes_round(&rt, &mut trunk)?;
-        let bytes = trunk.into_bytes();
+        let Frames(bytes) = goes_round(&rt, Frames(vec![in rt.alloc(); 255u8; 37]?))?;
         assert!(rt; bytes.len() == 37);
-        assert_eq!(rt; bytes[29] == 255, false);
-        for i in 30..37 {
-            assert_eq!(rt; bytes[i], 255);
+        assert!(rt; bytes[29] != 255);
+        assert!(rt; bytes[30..].iter().all(|&byte| byte == 255));
+        Ok(())
+    }
+
+    #[test]
+    fn shelf_capacities(rt: HostRuntime) -> Result<(), Fail> {
+        for places in [1, 4096] {
+            let made = Shelf::new(vec![in rt.alloc(); numbered(0)?; places]?);
+            assert_eq!(rt; made.ok().map(|shelf| shelf.free()), Some(places));
+        }
+        for places in [0, 4097] {
+            let made = Shelf::new(vec![in rt.alloc(); numbered(0)?; places]?);
+            let back = made.err().map(|back| (back.refusal, back.given.len()));
+            assert_eq!(rt; back, Some((Refusal::SettingNotAllowed, places)));
         }
         Ok(())
     }
 
-    fn shelf_of(rt: &HostRuntime, places: usize) -> Result<(Option<Refusal>, usize), Fail> {
-        match Shelf::new(vec![in rt.alloc(); numbered(0)?; places]?) {
-            Ok(shelf) => Ok((None, shelf.free())),
-            Err(back) => Ok((Some(back.refusal), back.given.len())),
-        }
-    }
-
-    fn trunk_of(rt: &HostRuntime, bytes: usize) -> Result<(Option<Refusal>, usize), Fail> {
-        match Trunk::new(vec![in rt.alloc(); 0u8; bytes]?) {
-            Ok(trunk) => Ok((None, trunk.free())),
-            Err(back) => Ok((Some(back.refusal), back.given.len())),
-        }
-    }
-
     #[test]
-    fn capacities(rt: HostRuntime) -> Result<(), Fail> {
-        let refused = Some(Refusal::SettingNotAllowed);
-        assert_eq!(rt; shelf_of(&rt, 0)?, (refused, 0));
-        assert_eq!(rt; shelf_of(&rt, 1)?, (None, 1));
-        assert_eq!(rt; shelf_of(&rt, 4096)?, (None, 4096));
-        assert_eq!(rt; shelf_of(&rt, 4097)?, (refused, 4097));
-        assert_eq!(rt; trunk_of(&rt, 14)?, (refused, 14));
-        assert_eq!(rt; trunk_of(&rt, 15)?, (None, 1));
-        assert_eq!(rt; trunk_of(&rt, 61454)?, (None, 4096));
-        assert_eq!(rt; trunk_of(&rt, 61455)?, (refused, 61455));
+    fn trunk_capacities(rt: HostRuntime) -> Result<(), Fail> {
+        for (bytes, places) in [(15, 1), (61454, 4096)] {
+            let made = Trunk::new(Frames(vec![in rt.alloc(); 0u8; bytes]?));
+            assert_eq!(rt; made.ok().map(|trunk| trunk.free()), Some(places));
+        }
+        for bytes in [14, 61455] {
+            let made = Trunk::new(Frames(vec![in rt.alloc(); 0u8; bytes]?));
+            let back = made.err().map(|back| (back.refusal, back.given.0.len()));
+            assert_eq!(rt; back, Some((Refusal::SettingNotAllowed, bytes)));
+        }
         Ok(())
     }
 

@@ -1,77 +1,94 @@
 -- The code agrees with the rule on every mask and identifier: one computed table.
-use Rattle.std.proofs.Common.{◌≡◌, ℕ, zero, suc, ◌%◌, ◌^◌, ◌<◌, Bool, true, false, cond, ◌&&◌, eqb, Some, None, Option, sym, refl, ap, ◌∙◌, inl, inr, arith}
+use Rattle.std.proofs.Common.{◌≡◌, ℕ, ◌+◌, ◌-◌, ◌*◌, ◌%◌, ◌^◌, ◌<◌, Bool, true, false, cond, eqb, bit_and, bit_or, Some, None, Option, w8, sym, refl, ap, ◌∙◌, arith}
 use mathlib.Core.HLevel.{is_prop→PathP}
 use native.Mathlib.Bridge.{le_prop}
 use lib.Count.{ones_in, ones, count_trailing_zeros}
-use Rattle.std.proofs.lemmas.Bool.{and_parts, eqb-true, cases_eq}
+use Rattle.std.specs.Int.{rotate_right}
+use Rattle.std.specs.Option.{option_eq}
+use Rattle.std.specs.Result.{result_ok}
+use Rattle.std.proofs.lemmas.Bool.{eqb-true, agree_below, agree_below_at, lt-ltb}
+use Rattle.fields.specs.Fields.{checked}
+use Rattle.fields.specs.Values.{Identifier, identifier_of}
 use Rattle.marks.specs.declared.mask.Marks.{Marks}
-use Rattle.marks.specs.Mask.{with_mark, without_mark, start_after, nearest}
-use Rattle.marks.specs.Marks.{held_count, all_held, holding, releasing, next_from}
+use Rattle.marks.specs.Marks.{held_count, all_held, holding, releasing, next_from, identified, next_issued}
 
 pub same-marks : (x y : Marks) → x.bits ≡ y.bits → x ≡ y
 same-marks x y e = λ i. record { bits = e i; fits = is_prop→PathP (λ j. e j < 2 ^ 8) (λ j. le_prop) x.fits y.fits i }
 
-abbrev below : ℕ → (ℕ → Bool) → Bool
-below zero f = true
-below (suc n) f = f n && below n f
-
-from-below : (n : ℕ) (f : ℕ → Bool) → below n f ≡ true → (k : ℕ) → k < n → f k ≡ true
-from-below zero f t k h = absurd (omega arith)
-from-below (suc n) f t k h =
-    let parts = and_parts (f n) (below n f) t in
-    elim (cases_eq k n) [ inl e ↦ ap f e ∙ parts.0 | inr ne ↦ from-below n f parts.1 k (omega arith) ]
+abbrev always : ℕ → Bool
+always _ = true
 
 -- on every mask and identifier
 abbrev everywhere : (ℕ → ℕ → Bool) → Bool
-everywhere f = below 256 (λ h. below 8 (f h))
+everywhere f = agree_below (λ h. agree_below (f h) always 8) always 256
 
-from-everywhere : (f : ℕ → ℕ → Bool) → everywhere f ≡ true → (h i : ℕ) → h < 256 → i < 8 → f h i ≡ true
-from-everywhere f t h i hh hi = from-below 8 (f h) (from-below 256 (λ m. below 8 (f m)) t h hh) i hi
+module _ (f : ℕ → ℕ → Bool) (t : everywhere f ≡ true) (m : Marks) (i : Identifier) where
+  from-everywhere : f m.bits i.bits ≡ true
+  from-everywhere =
+      agree_below_at (f m.bits) always 8 i.bits (agree_below_at (λ h. agree_below (f h) always 8) always 256 m.bits t m.fits) i.fits
+
+-- the identifier after the last issued
+abbrev start_after : ℕ → ℕ
+start_after last = (last + 1) % 8
+
+-- the first of those that are not held, with that at which the search begins moved to place 0
+abbrev nearest : ℕ → ℕ → ℕ
+nearest h from = (count_trailing_zeros 8 (rotate_right w8 (255 - h) from) + from) % 8
 
 abbrev coded : ℕ → ℕ → Option ℕ
 coded h last = cond (all_held h) None (Some (nearest h (start_after last)))
 
-abbrev same : Option ℕ → Option ℕ → Bool
-same None None = true
-same None (Some y) = false
-same (Some x) None = false
-same (Some x) (Some y) = eqb x y
+same : (a b : Option ℕ) → option_eq eqb a b ≡ true → a ≡ b
+same None None t = refl
+same None (Some y) t = cc
+same (Some x) None t = cc
+same (Some x) (Some y) t = ap Some (eqb-true x y t)
 
-same-is : (a b : Option ℕ) → same a b ≡ true → a ≡ b
-same-is None None t = refl
-same-is None (Some y) t = absurd (let z : ◌≡◌ {A = ℕ} 0 1 = cc in omega arith)
-same-is (Some x) None t = absurd (let z : ◌≡◌ {A = ℕ} 0 1 = cc in omega arith)
-same-is (Some x) (Some y) t = ap Some (eqb-true x y t)
+abbrev counts : ℕ → Bool
+counts h = eqb (ones h) (held_count h)
 
-counted : below 256 (λ h. eqb (ones h) (held_count h)) ≡ true
+abbrev holds : ℕ → ℕ → Bool
+holds h i = eqb (bit_or h (1 * 2 ^ i % 256)) (holding h i % 2 ^ 8)
+
+abbrev releases : ℕ → ℕ → Bool
+releases h i = eqb (bit_and h (255 - 1 * 2 ^ i % 256)) (releasing h i % 2 ^ 8)
+
+abbrev issues : ℕ → ℕ → Bool
+issues h i = option_eq eqb (coded h i) (next_from 8 h (start_after i))
+
+counted : agree_below counts always 256 ≡ true
 unfolding ones ones_in
 counted = refl
 
-held : everywhere (λ h i. eqb (with_mark h i) (holding h i % 2 ^ 8)) ≡ true
+held : everywhere holds ≡ true
 held = refl
 
-released : everywhere (λ h i. eqb (without_mark h i) (releasing h i % 2 ^ 8)) ≡ true
+released : everywhere releases ≡ true
 released = refl
 
-issued : everywhere (λ h i. same (coded h i) (next_from 8 h (start_after i))) ≡ true
+issued : everywhere issues ≡ true
 unfolding count_trailing_zeros
 issued = refl
 
-pub count-is : (h : ℕ) → h < 256 → ones h ≡ held_count h
-count-is h hh = eqb-true _ _ (from-below 256 (λ m. eqb (ones m) (held_count m)) counted h hh)
+module _ (m : Marks) where
+  pub count-is : ones m.bits ≡ held_count m.bits
+  count-is = eqb-true _ _ (agree_below_at counts always 256 m.bits counted m.fits)
 
-module _ (h i : ℕ) (hh : h < 256) (hi : i < 8) where
-  pub hold-is : with_mark h i ≡ holding h i % 2 ^ 8
-  hold-is = eqb-true _ _ (from-everywhere (λ m j. eqb (with_mark m j) (holding m j % 2 ^ 8)) held h i hh hi)
+  module _ (i : Identifier) where
+    pub hold-is : bit_or m.bits (1 * 2 ^ i.bits % 256) ≡ holding m.bits i.bits % 2 ^ 8
+    hold-is = eqb-true _ _ (from-everywhere holds held m i)
 
-  pub release-is : without_mark h i ≡ releasing h i % 2 ^ 8
-  release-is = eqb-true _ _ (from-everywhere (λ m j. eqb (without_mark m j) (releasing m j % 2 ^ 8)) released h i hh hi)
+    pub release-is : bit_and m.bits (255 - 1 * 2 ^ i.bits % 256) ≡ releasing m.bits i.bits % 2 ^ 8
+    release-is = eqb-true _ _ (from-everywhere releases released m i)
 
-  coded-is : coded h i ≡ next_from 8 h (start_after i)
-  coded-is = same-is _ _ (from-everywhere (λ m j. same (coded m j) (next_from 8 m (start_after j))) issued h i hh hi)
+    coded-is : coded m.bits i.bits ≡ next_from 8 m.bits (start_after i.bits)
+    coded-is = same _ _ (from-everywhere issues issued m i)
 
-  pub none_is : all_held h ≡ true → None ≡ next_from 8 h (start_after i)
-  none_is all = sym (ap (λ b. cond b None (Some (nearest h (start_after i)))) all) ∙ coded-is
+    pub none_is : all_held m.bits ≡ true → None ≡ next_issued m i
+    none_is all = ap identified (sym (ap (λ b. cond b None (Some (nearest m.bits (start_after i.bits)))) all) ∙ coded-is)
 
-  pub some_is : all_held h ≡ false → Some (nearest h (start_after i)) ≡ next_from 8 h (start_after i)
-  some_is some = sym (ap (λ b. cond b None (Some (nearest h (start_after i)))) some) ∙ coded-is
+    pub some_is : (n : ℕ) → all_held m.bits ≡ false → n ≡ nearest m.bits (start_after i.bits) → result_ok (checked 3 identifier_of n) ≡ next_issued m i
+    some_is n some e =
+        let within : n < 8 = omega arith in
+        let fits : result_ok (checked 3 identifier_of n) ≡ Some (identifier_of n) = rw (lt-ltb n 8 within) in
+        fits ∙ ap identified (ap Some e ∙ (sym (ap (λ b. cond b None (Some (nearest m.bits (start_after i.bits)))) some) ∙ coded-is))

@@ -1,8 +1,7 @@
 -- Which identifiers are held, and which is issued next.
 use Rattle.std.specs.Prelude.{ℕ, zero, suc, ◌+◌, ◌-◌, ◌/◌, ◌%◌, ◌^◌, Bool, cond, [], ◌∷◌, Some, None, count_by, Option, ◌==◌}
 use Rattle.std.proofs.Common.{mod-lt, arith}
-use Rattle.fields.specs.declared.values.Identifier.{Identifier}
-use Rattle.fields.specs.Values.{identifier_of}
+use Rattle.fields.specs.Values.{Identifier, identifier_of}
 use Rattle.marks.specs.declared.mask.Marks.{Marks}
 
 -- the marks with these bits, those above the eighth left out

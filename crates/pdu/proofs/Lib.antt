@@ -1,2 +1,4 @@
+pub mod BitLaws
+pub mod Readings
 pub mod Rounds
 pub mod Sizes

@@ -1,14 +1,15 @@
 -- What is read is what was written, and the other way.
-use Rattle.std.proofs.Common.{◌≡◌, ℕ, zero, suc, ◌+◌, ◌-◌, ◌*◌, ◌/◌, ◌%◌, ◌^◌, ◌<◌, ◌≤◌, Bool, true, false, cond, eqb, List, [], ◌∷◌, ◌++◌, length, get_or, take, drop, replicate, Some, None, Ok, Err, Option, Result, sym, refl, ap, ◌∙◌, append-nil, zero-add, arith}
+use Rattle.std.proofs.Common.{◌≡◌, ℕ, zero, suc, ◌+◌, ◌-◌, ◌*◌, ◌/◌, ◌%◌, ◌^◌, ◌<◌, ◌≤◌, Bool, true, false, cond, eqb, List, [], ◌∷◌, ◌++◌, length, get_or, take, drop, replicate, Some, None, Ok, Err, Option, Result, sym, refl, ap, ◌∙◌, append-nil, arith}
 use Rattle.std.proofs.lemmas.List.{take_at, drop_at, drop_all, drop_more, take-append-drop}
 use Rattle.std.proofs.lemmas.Bool.{eq-eqb, ne_eqb, eqb-true, cond-true, cond-false}
 use Rattle.bits.specs.Bits.{unpack, bits_of, bytes_for, pack, Bitlike, Bytelike}
 use Rattle.bits.specs.declared.fault.Fault.{Fault}
 use Rattle.bits.proofs.BitLaws.{bits_of-bits, get_or-unpack, length-unpack, length-bits_of}
 use Rattle.bits.proofs.PackLaws.{packed, unpack-pack, length-pack}
-use Rattle.element.specs.Codecs.{ok_same}
 use Rattle.pdu.specs.Bytes.{first_one, padded, closed, decode, bit_count, image_of}
-use Rattle.pdu.specs.Whole.{pdu, bits_of_pdu, reading}
+use Rattle.pdu.specs.Bits.{bits_of_pdu, reading}
+use Rattle.pdu.proofs.Readings.{reading-back, reading-wrote}
+use Rattle.source.specs.Forms.{ok_same}
 use Rattle.pdu.specs.declared.pdus.Pdu.{Pdu}
 
 first_one-zeros : (at k : ℕ) → first_one at (replicate k 0) ≡ None
@@ -44,11 +45,12 @@ closed-from bytes n (Ok q) p h =
     (ap (λ x. Ok (x, q.1)) j.0 ∙ ap (λ m. Ok (p, m)) (eqb-true q.1 n i.0), j.1)
 
 spelt-decodes : (bytes : List ℕ) (n k : ℕ) (p : Pdu) → n ≡ bit_count p → length bytes ≡ bytes_for n → unpack bytes ≡ bits_of_pdu p ++ replicate k 0 → decode bytes n ≡ Ok p
-unfolding bits_of reading
+unfolding bits_of
 spelt-decodes bytes n k p count size bits =
     let enc = bits_of_pdu p in
     let all : bits_of bytes n ≡ enc ++ [] = ap (take n) bits ∙ take_at enc (replicate k 0) n (sym count) ∙ sym (append-nil enc) in
-    let r : pdu.dec (bits_of bytes n) 0 ≡ Ok (p, n) = pdu.reads (bits_of bytes n) 0 p [] refl all ∙ ap (λ m. Ok (p, m)) (zero-add (length enc) ∙ sym count) in
+    let same = all ∙ append-nil enc in
+    let r : reading (bits_of bytes n) ≡ Ok (p, n) = reading-back p (bits_of bytes n) (bits_of-bits bytes n) same ∙ ap (λ m. Ok (p, m)) (ap length same ∙ sym count) in
     let pad : first_one n (drop n (unpack bytes)) ≡ None = ap (λ l. first_one n (drop n l)) bits ∙ ap (first_one n) (drop_at enc (replicate k 0) n (sym count)) ∙ first_one-zeros n k in
     cond-true _ _ _ (eq-eqb _ _ size) ∙ ap (closed bytes n) r ∙ cond-true _ _ _ (eq-eqb n n refl) ∙ ap (padded p) pad
 
@@ -60,14 +62,14 @@ reads-back p b =
 
 -- bytes that are read as a PDU are those that it is written as
 pub accepted : (bytes : List ℕ) (n : ℕ) (p : Pdu) → Bytelike bytes → decode bytes n ≡ Ok p → ◌≡◌ {A = List ℕ × ℕ} (bytes, n) (image_of p)
-unfolding bits_of reading
+unfolding bits_of
 accepted bytes n p small h =
     let i = through (eqb (length bytes) (bytes_for n)) _ _ p h in
     let j = closed-from bytes n (reading (bits_of bytes n)) p i.1 in
     let size : length bytes ≡ bytes_for n = eqb-true _ _ i.0 in
     let len : length (bits_of bytes n) ≡ n = length-bits_of bytes n (omega arith) in
     let enc = bits_of_pdu p in
-    let all : bits_of bytes n ≡ enc ++ drop n (bits_of bytes n) = pdu.wrote (bits_of bytes n) 0 p n (bits_of-bits bytes n) j.0 in
+    let all : bits_of bytes n ≡ enc ++ drop n (bits_of bytes n) = reading-wrote p (bits_of bytes n) n (bits_of-bits bytes n) j.0 in
     let none : drop n (bits_of bytes n) ≡ [] = drop_all n (bits_of bytes n) (omega arith) in
     let same : bits_of bytes n ≡ enc = all ∙ ap (λ l. enc ++ l) none ∙ append-nil enc in
     let count : n ≡ bit_count p = sym len ∙ ap length same in

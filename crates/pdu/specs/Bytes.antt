@@ -4,7 +4,7 @@ use Rattle.bits.specs.Bits.{unpack, bits_of, bytes_for, pack}
 use Rattle.bits.specs.declared.fault.Fault.{Fault}
 use Rattle.bits.specs.declared.fault.Layer.TheVariants as layer
 use Rattle.bits.specs.declared.fault.Reason.TheVariants.{EndsInside, LeftOver}
-use Rattle.pdu.specs.Whole.{bits_of_pdu, reading}
+use Rattle.pdu.specs.Bits.{bits_of_pdu, reading}
 use Rattle.pdu.specs.declared.pdus.Pdu.{Pdu}
 
 -- the bytes are not as many as the count of bits needs

@@ -1,6 +1,6 @@
-pub mod Ways
 pub mod Parts
 pub mod Pdus
 pub mod Lists
 pub mod Whole
+pub mod Bits
 pub mod Bytes

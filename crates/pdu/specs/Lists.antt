@@ -1,149 +1,168 @@
 -- The answer to LIST.
-use Rattle.std.specs.Prelude.{◌≡◌, ℕ, ◌+◌, List, ◌++◌, length, drop, Ok, refl}
-use Rattle.std.proofs.Common.{sym, ap, ◌∙◌}
-use Rattle.bits.specs.Bits.{Bitlike}
+use Rattle.std.specs.Prelude.{◌≡◌, ℕ, zero, suc, ◌≤◌, List, [], ◌∷◌, length, take, Ok, Err, Result, refl}
+use Rattle.std.specs.List.{flat_map}
+use Rattle.std.proofs.Common.{sym, ap, ◌∙◌, subst, arith, length-take}
+use Rattle.std.proofs.lemmas.List.{take_all}
+use mathlib.Core.HLevel.{is_prop→PathP}
+use native.Mathlib.Bridge.{le_prop}
 use Rattle.bits.specs.declared.fault.ElementName.TheVariants as name
-use Rattle.element.specs.Codecs.{Codec, Reader, Anything, ◌then◌, like, nothing, and_then, and_then-from, ok_same}
-use Rattle.element.specs.Codings.{spelt}
 use Rattle.element.specs.Listed as listed
 use Rattle.element.specs.declared.listed.ListRequest.{ListRequest}
 use Rattle.element.specs.declared.listed.ListRequest.TheVariants as requests
-use Rattle.element.specs.declared.listed.UpToFive.{UpToFive}
-use Rattle.element.specs.declared.listed.UpToFive.TheVariants as counts
+use Rattle.element.specs.declared.counts.UpToFive.{UpToFive}
+use Rattle.element.specs.Counts.{up_to_five, same_count}
+use Rattle.element.specs.declared.listed.RejectCause.{RejectCause}
 use Rattle.element.specs.declared.listed.Verdict.{Verdict}
 use Rattle.element.specs.declared.listed.Verdict.TheVariants as verdicts
 use Rattle.pdu.specs.Parts.{ccbsi, called, list_request, reject_cause}
-use Rattle.pdu.specs.Ways.{WaysReadBack, WaysAreWritten, way, way-reads, way-wrote, keyed}
 use Rattle.pdu.specs.declared.lists.Few.{Few}
-use Rattle.pdu.specs.declared.lists.Few.TheVariants as fews
-use Rattle.pdu.specs.declared.lists.ListAck.{ListAck}
-use Rattle.pdu.specs.declared.lists.ListAck.TheVariants as acks
 use Rattle.pdu.specs.declared.lists.ListedRequest.{ListedRequest}
 use Rattle.pdu.specs.declared.lists.Listing.{Listing}
 use Rattle.pdu.specs.declared.lists.Listing.TheVariants as listings
+use Rattle.source.specs.Forms.{Form, Stands, element, way, way-reads, way-keyed, like, keyed, and_then-from, ok_same, stands-append, stands-split, ◌then◌}
+use Rattle.source.specs.Hearing.{Hearing, and_then, named}
+use Rattle.source.specs.declared.told.Told.{Told}
 
-module _ {A : Type 0} (c : Codec A) where
-  abbrev pub two : Codec (A × A)
-  two = c then c
+abbrev pub few_tag : {A : Type 0} → Few A → UpToFive
+few_tag f = record { count = length f.items.items; few = f.few }
 
-  abbrev pub three : Codec (A × (A × A))
-  three = c then two
+abbrev pub few_of : {A : Type 0} → List A → Few A
+few_of xs = record { items = record { items = take 5 xs }; few = omega (arith, length-take 5 xs) }
 
-  abbrev pub four : Codec (A × (A × (A × A)))
-  four = c then three
+-- as many as the length says, one after the other
+module _ {S F A : Type 0} (item : S → Result (A × S) F) where
+  abbrev pub items_heard : ℕ → S → Result (List A × S) F
+  items_heard zero s = Ok ([], s)
+  items_heard (suc n) s = and_then (item s) (λ x t. named (λ xs. x ∷ xs) (items_heard n t))
 
-  abbrev pub five : Codec (A × (A × (A × (A × A))))
-  five = c then four
+  abbrev pub few_heard : UpToFive → S → Result (Few A × S) F
+  few_heard n s = named few_of (items_heard n.count s)
 
-  -- as many as the length said
-  abbrev pub few_tag : Few A → UpToFive
-  few_tag fews.Zero = counts.Zero
-  few_tag (fews.One v) = counts.One
-  few_tag (fews.Two v w) = counts.Two
-  few_tag (fews.Three v w x) = counts.Three
-  few_tag (fews.Four v w x y) = counts.Four
-  few_tag (fews.Five v w x y z) = counts.Five
+pub same_few : {A : Type 0} (f g : Few A) → f.items.items ≡ g.items.items → f ≡ g
+same_few f g e = λ i. record { items = record { items = e i }; few = is_prop→PathP (λ j. length (e j) ≤ 5) (λ j. le_prop) f.few g.few i }
 
-  abbrev pub few_rest : Few A → List ℕ
-  few_rest fews.Zero = nothing.enc tt
-  few_rest (fews.One v) = c.enc v
-  few_rest (fews.Two v w) = two.enc (v, w)
-  few_rest (fews.Three v w x) = three.enc (v, (w, x))
-  few_rest (fews.Four v w x y) = four.enc (v, (w, (x, y)))
-  few_rest (fews.Five v w x y z) = five.enc (v, (w, (x, (y, z))))
+module _ {A : Type 0} (c : Form A) where
+  abbrev pub few_rest : Few A → List Told
+  few_rest f = flat_map c.tell f.items.items
 
-  abbrev pub few_body : UpToFive → Reader (Few A)
-  few_body counts.Zero = way nothing (λ _. fews.Zero)
-  few_body counts.One = way c (λ p. fews.One p)
-  few_body counts.Two = way two (λ p. fews.Two p.0 p.1)
-  few_body counts.Three = way three (λ p. fews.Three p.0 p.1.0 p.1.1)
-  few_body counts.Four = way four (λ p. fews.Four p.0 p.1.0 p.1.1.0 p.1.1.1)
-  few_body counts.Five = way five (λ p. fews.Five p.0 p.1.0 p.1.1.0 p.1.1.1.0 p.1.1.1.1)
+  pub items-reads : {S F : Type 0} (h : Hearing S F) (xs : List A) (s t : S) → Stands h s (flat_map c.tell xs) t → items_heard (c.hear h) (length xs) s ≡ Ok (xs, t)
+  items-reads h [] s t p = ap (λ u. Ok ([], u)) p
+  items-reads h (x ∷ xs) s t p =
+      let k = stands-split h (c.tell x) (flat_map c.tell xs) s t p in
+      ap (λ r. and_then r (λ y u. named (λ ys. y ∷ ys) (items_heard (c.hear h) (length xs) u))) (c.reads h s x k.0 k.1)
+      ∙ ap (named (λ ys. x ∷ ys)) (items-reads h xs k.0 t k.2)
 
-  pub few-reads : WaysReadBack few_tag few_rest few_body Anything
-  few-reads fews.Zero = way-reads nothing (λ _. fews.Zero) tt
-  few-reads (fews.One v) = way-reads c (λ p. fews.One p) v
-  few-reads (fews.Two v w) = way-reads two (λ p. fews.Two p.0 p.1) (v, w)
-  few-reads (fews.Three v w x) = way-reads three (λ p. fews.Three p.0 p.1.0 p.1.1) (v, (w, x))
-  few-reads (fews.Four v w x y) = way-reads four (λ p. fews.Four p.0 p.1.0 p.1.1.0 p.1.1.1) (v, (w, (x, y)))
-  few-reads (fews.Five v w x y z) = way-reads five (λ p. fews.Five p.0 p.1.0 p.1.1.0 p.1.1.1.0 p.1.1.1.1) (v, (w, (x, (y, z))))
+  items-joined : {S F : Type 0} (h : Hearing S F) (s u v t : S) (y : A) (ys xs : List A) → ◌≡◌ {A = Result (List A × S) F} (Ok (y ∷ ys, v)) (Ok (xs, t)) →
+      Stands h s (c.tell y) u → Stands h u (flat_map c.tell ys) v → (length xs ≡ suc (length ys)) × Stands h s (flat_map c.tell xs) t
+  items-joined h s u v t y ys xs p one more =
+      let e = ok_same (y ∷ ys, v) (xs, t) p in
+      (ap (λ z. length z.0) (sym e), subst (λ z. Stands h s (flat_map c.tell z.0) z.1) e (stands-append h (c.tell y) (flat_map c.tell ys) s u v one more))
 
-  pub few-wrote : WaysAreWritten few_tag few_rest few_body
-  few-wrote counts.Zero = way-wrote nothing (λ _. fews.Zero) few_tag few_rest counts.Zero (λ _. refl) (λ _. refl)
-  few-wrote counts.One = way-wrote c (λ p. fews.One p) few_tag few_rest counts.One (λ _. refl) (λ _. refl)
-  few-wrote counts.Two = way-wrote two (λ p. fews.Two p.0 p.1) few_tag few_rest counts.Two (λ _. refl) (λ _. refl)
-  few-wrote counts.Three = way-wrote three (λ p. fews.Three p.0 p.1.0 p.1.1) few_tag few_rest counts.Three (λ _. refl) (λ _. refl)
-  few-wrote counts.Four = way-wrote four (λ p. fews.Four p.0 p.1.0 p.1.1.0 p.1.1.1) few_tag few_rest counts.Four (λ _. refl) (λ _. refl)
-  few-wrote counts.Five = way-wrote five (λ p. fews.Five p.0 p.1.0 p.1.1.0 p.1.1.1.0 p.1.1.1.1) few_tag few_rest counts.Five (λ _. refl) (λ _. refl)
+  pub items-wrote : {S F : Type 0} (h : Hearing S F) (n : ℕ) (s : S) (xs : List A) (t : S) → items_heard (c.hear h) n s ≡ Ok (xs, t) → (length xs ≡ n) × Stands h s (flat_map c.tell xs) t
+  items-wrote h zero s xs t p =
+      let e = ok_same ([], s) (xs, t) p in
+      (ap (λ z. length z.0) (sym e), subst (λ z. Stands h s (flat_map c.tell z.0) z.1) e refl)
+  items-wrote h (suc n) s xs t p =
+      let i = and_then-from (c.hear h s) (λ y u. named (λ ys. y ∷ ys) (items_heard (c.hear h) n u)) (xs, t) p in
+      let j = and_then-from (items_heard (c.hear h) n i.0.1) (λ ys u. Ok (i.0.0 ∷ ys, u)) (xs, t) i.2 in
+      let w = items-wrote h n i.0.1 j.0.0 j.0.1 j.1 in
+      let k = items-joined h s i.0.1 j.0.1 t i.0.0 j.0.0 xs j.2 (c.wrote h s i.0.0 i.0.1 i.1) w.1 in
+      (k.0 ∙ ap (λ m. suc m) w.0, k.1)
 
-abbrev pub request_count : Codec UpToFive
-request_count = spelt name.RequestCount listed.up_to_five
+  pub few-reads : {S F : Type 0} (h : Hearing S F) (s : S) (f : Few A) (t : S) → Stands h s (few_rest f) t → few_heard (c.hear h) (few_tag f) s ≡ Ok (f, t)
+  few-reads h s f t p =
+      ap (named few_of) (items-reads h f.items.items s t p)
+      ∙ ap (λ g. Ok (g, t)) (same_few (few_of f.items.items) f (take_all 5 f.items.items f.few))
 
-abbrev pub listed_request : Codec ListedRequest
+  few-made : {S F : Type 0} (h : Hearing S F) (k : UpToFive) (s u t : S) (xs : List A) (f : Few A) → ◌≡◌ {A = Result (Few A × S) F} (Ok (few_of xs, u)) (Ok (f, t)) →
+      (length xs ≡ k.count) × Stands h s (flat_map c.tell xs) u → (few_tag f ≡ k) × Stands h s (few_rest f) t
+  few-made h k s u t xs f p w =
+      let few = k.few in
+      let all : take 5 xs ≡ xs = take_all 5 xs (omega arith) in
+      let e = ok_same (few_of xs, u) (f, t) p in (
+        same_count (few_tag f) k (ap (λ z. length z.0.items.items) (sym e) ∙ ap length all ∙ w.0),
+        subst (λ z. Stands h s (few_rest z.0) z.1) e (subst (λ ys. Stands h s (flat_map c.tell ys) u) (sym all) w.1),
+      )
+
+  pub few-wrote : {S F : Type 0} (h : Hearing S F) (k : UpToFive) (s : S) (f : Few A) (t : S) → few_heard (c.hear h) k s ≡ Ok (f, t) → (few_tag f ≡ k) × Stands h s (few_rest f) t
+  few-wrote h k s f t p =
+      let i = and_then-from (items_heard (c.hear h) k.count s) (λ xs u. Ok (few_of xs, u)) (f, t) p in
+      few-made h k s i.0.1 t i.0.0 f i.2 (items-wrote h k.count s i.0.0 i.0.1 i.1)
+
+abbrev pub request_count : Form UpToFive
+request_count = element name.RequestCount up_to_five
+
+abbrev pub listed_request : Form ListedRequest
 listed_request = like (ccbsi then called) (λ p. record { ccbsi = p.0; called = p.1 }) (λ m. (m.ccbsi, m.called)) (λ m. refl) (λ p. refl)
 
 -- length and form, and then what the form says, as often as the length says
-abbrev pub list_head : Codec (UpToFive × ListRequest)
-list_head = spelt name.ListLength listed.up_to_five then list_request
+abbrev pub list_head : Form (UpToFive × ListRequest)
+list_head = element name.ListLength up_to_five then list_request
 
 abbrev pub listing_tag : Listing → UpToFive × ListRequest
 listing_tag (listings.Count n) = (n.list_length, requests.Count)
-listing_tag (listings.Identifiers f) = (few_tag ccbsi f, requests.Identifiers)
-listing_tag (listings.Details f) = (few_tag listed_request f, requests.Details)
+listing_tag (listings.Identifiers f) = (few_tag f, requests.Identifiers)
+listing_tag (listings.Details f) = (few_tag f, requests.Details)
 
-abbrev pub listing_rest : Listing → List ℕ
-listing_rest (listings.Count n) = request_count.enc n.request_count
+abbrev pub listing_rest : Listing → List Told
+listing_rest (listings.Count n) = request_count.tell n.request_count
 listing_rest (listings.Identifiers f) = few_rest ccbsi f
 listing_rest (listings.Details f) = few_rest listed_request f
 
-abbrev pub listing_body : UpToFive → ListRequest → Reader Listing
-listing_body l requests.Count = way request_count (λ n. listings.Count (record { list_length = l; request_count = n }))
-listing_body l requests.Identifiers = λ all at. and_then (few_body ccbsi l all at) (λ f n. Ok (listings.Identifiers f, n))
-listing_body l requests.Details = λ all at. and_then (few_body listed_request l all at) (λ f n. Ok (listings.Details f, n))
+abbrev pub few_listed : {A : Type 0} → Form A → (Few A → Listing) → {S F : Type 0} → Hearing S F → UpToFive → S → Result (Listing × S) F
+few_listed c f h l s = named f (few_heard (c.hear h) l s)
 
-pub listing-reads : (o : Listing) (all : List ℕ) (at : ℕ) (more : List ℕ) → Anything more → drop at all ≡ listing_rest o ++ more → listing_body (listing_tag o).0 (listing_tag o).1 all at ≡ Ok (o, at + length (listing_rest o))
-listing-reads (listings.Count n) all at more _ h = way-reads request_count (λ k. listings.Count (record { list_length = n.list_length; request_count = k })) n.request_count all at more tt h
-listing-reads (listings.Identifiers f) all at more _ h = ap (λ r. and_then r (λ f n. Ok (listings.Identifiers f, n))) (few-reads ccbsi f all at more tt h)
-listing-reads (listings.Details f) all at more _ h = ap (λ r. and_then r (λ f n. Ok (listings.Details f, n))) (few-reads listed_request f all at more tt h)
+abbrev pub listing_body : {S F : Type 0} → Hearing S F → UpToFive → ListRequest → S → Result (Listing × S) F
+listing_body h l requests.Count = way request_count (λ n. listings.Count (record { list_length = l; request_count = n })) h
+listing_body h l requests.Identifiers = few_listed ccbsi listings.Identifiers h l
+listing_body h l requests.Details = few_listed listed_request listings.Details h l
 
-pub few-way : {A : Type 0} (c : Codec A) (f : Few A → Listing) (q : ListRequest) (l : UpToFive) → ((x : Few A) → listing_tag (f x) ≡ (few_tag c x, q)) → ((x : Few A) → listing_rest (f x) ≡ few_rest c x) →
-    (o : Listing) (all : List ℕ) (at n : ℕ) → Bitlike all → and_then {B = Listing × ℕ} (few_body c l all at) (λ x m. Ok (f x, m)) ≡ Ok (o, n) → (listing_tag o ≡ (l, q)) × (drop at all ≡ listing_rest o ++ drop n all)
-few-way c f q l t r o all at n bl h =
-    let i = and_then-from (few_body c l all at) (λ x m. Ok (f x, m)) (o, n) h in
+pub listing-reads : {S F : Type 0} (h : Hearing S F) (s : S) (o : Listing) (t : S) → Stands h s (listing_rest o) t → listing_body h (listing_tag o).0 (listing_tag o).1 s ≡ Ok (o, t)
+listing-reads h s (listings.Count n) t p = way-reads request_count (λ k. listings.Count (record { list_length = n.list_length; request_count = k })) h s n.request_count t p
+listing-reads h s (listings.Identifiers f) t p = ap (λ r. and_then r (λ x u. Ok (listings.Identifiers x, u))) (few-reads ccbsi h s f t p)
+listing-reads h s (listings.Details f) t p = ap (λ r. and_then r (λ x u. Ok (listings.Details x, u))) (few-reads listed_request h s f t p)
+
+pub few-way : {A : Type 0} (c : Form A) (f : Few A → Listing) (q : ListRequest) (l : UpToFive) → ((x : Few A) → listing_tag (f x) ≡ (few_tag x, q)) → ((x : Few A) → listing_rest (f x) ≡ few_rest c x) →
+    {S F : Type 0} (h : Hearing S F) (s : S) (o : Listing) (t : S) → few_listed c f h l s ≡ Ok (o, t) → (listing_tag o ≡ (l, q)) × Stands h s (listing_rest o) t
+few-way c f q l tagged told h s o t p =
+    let i = and_then-from (few_heard (c.hear h) l s) (λ x u. Ok (f x, u)) (o, t) p in
     let x = i.0.0 in
-    let e = ok_same (f x, i.0.1) (o, n) i.2 in
-    let w = few-wrote c l x all at i.0.1 bl i.1 in (
-      ap (λ z. listing_tag z.0) (sym e) ∙ t x ∙ ap (λ k. (k, q)) w.0,
-      w.1 ∙ ap (λ b. b ++ drop i.0.1 all) (sym (r x)) ∙ ap (λ z. listing_rest z.0 ++ drop z.1 all) e,
+    let e = ok_same (f x, i.0.1) (o, t) i.2 in
+    let w = few-wrote c h l s x i.0.1 i.1 in (
+      ap (λ z. listing_tag z.0) (sym e) ∙ tagged x ∙ ap (λ k. (k, q)) w.0,
+      subst (λ z. Stands h s (listing_rest z.0) z.1) e (subst (λ xs. Stands h s xs i.0.1) (sym (told x)) w.1),
     )
 
-pub listing-wrote : (l : UpToFive) (q : ListRequest) (o : Listing) (all : List ℕ) (at n : ℕ) → Bitlike all → listing_body l q all at ≡ Ok (o, n) → (listing_tag o ≡ (l, q)) × (drop at all ≡ listing_rest o ++ drop n all)
-listing-wrote l requests.Count = way-wrote request_count (λ n. listings.Count (record { list_length = l; request_count = n })) listing_tag listing_rest (l, requests.Count) (λ _. refl) (λ _. refl)
-listing-wrote l requests.Identifiers = few-way ccbsi listings.Identifiers requests.Identifiers l (λ _. refl) (λ _. refl)
-listing-wrote l requests.Details = few-way listed_request listings.Details requests.Details l (λ _. refl) (λ _. refl)
+pub listing-wrote : {S F : Type 0} (h : Hearing S F) (l : UpToFive) (q : ListRequest) (s : S) (o : Listing) (t : S) → listing_body h l q s ≡ Ok (o, t) → (listing_tag o ≡ (l, q)) × Stands h s (listing_rest o) t
+listing-wrote h l requests.Count = way-keyed request_count (λ n. listings.Count (record { list_length = l; request_count = n })) listing_tag listing_rest (l, requests.Count) (λ _. refl) (λ _. refl) h
+listing-wrote h l requests.Identifiers = few-way ccbsi listings.Identifiers requests.Identifiers l (λ _. refl) (λ _. refl) h
+listing-wrote h l requests.Details = few-way listed_request listings.Details requests.Details l (λ _. refl) (λ _. refl) h
 
-abbrev pub listing : Codec Listing
-listing = keyed list_head (record { tag = listing_tag; rest = listing_rest; body = λ k. listing_body k.0 k.1; reads = listing-reads; wrote = λ k. listing-wrote k.0 k.1 })
+abbrev pub listing : Form Listing
+listing = keyed list_head (record { tag = listing_tag; rest = listing_rest; body = λ h k. listing_body h k.0 k.1; reads = listing-reads; wrote = λ h k. listing-wrote h k.0 k.1 })
+
+abbrev pub ListAck : Type 0
+ListAck = Result Listing RejectCause
 
 abbrev pub ack_tag : ListAck → Verdict
-ack_tag (acks.Accepted l) = verdicts.Accepted
-ack_tag (acks.Rejected c) = verdicts.Rejected
+ack_tag (Ok l) = verdicts.Accepted
+ack_tag (Err c) = verdicts.Rejected
 
-abbrev pub ack_rest : ListAck → List ℕ
-ack_rest (acks.Accepted l) = listing.enc l
-ack_rest (acks.Rejected c) = reject_cause.enc c
+abbrev pub ack_rest : ListAck → List Told
+ack_rest (Ok l) = listing.tell l
+ack_rest (Err c) = reject_cause.tell c
 
-abbrev pub ack_body : Verdict → Reader ListAck
-ack_body verdicts.Accepted = way listing acks.Accepted
-ack_body verdicts.Rejected = way reject_cause acks.Rejected
+abbrev pub ack_body : {S F : Type 0} → Hearing S F → Verdict → S → Result (ListAck × S) F
+ack_body h verdicts.Accepted = way listing Ok h
+ack_body h verdicts.Rejected = way reject_cause Err h
 
-pub ack-reads : WaysReadBack ack_tag ack_rest ack_body Anything
-ack-reads (acks.Accepted l) = way-reads listing acks.Accepted l
-ack-reads (acks.Rejected c) = way-reads reject_cause acks.Rejected c
+pub ack-reads : {S F : Type 0} (h : Hearing S F) (s : S) (a : ListAck) (t : S) → Stands h s (ack_rest a) t → ack_body h (ack_tag a) s ≡ Ok (a, t)
+ack-reads h s (Ok l) t = way-reads listing Ok h s l t
+ack-reads h s (Err c) t = way-reads reject_cause Err h s c t
 
-pub ack-wrote : WaysAreWritten ack_tag ack_rest ack_body
-ack-wrote verdicts.Accepted = way-wrote listing acks.Accepted ack_tag ack_rest verdicts.Accepted (λ _. refl) (λ _. refl)
-ack-wrote verdicts.Rejected = way-wrote reject_cause acks.Rejected ack_tag ack_rest verdicts.Rejected (λ _. refl) (λ _. refl)
+pub ack-wrote : {S F : Type 0} (h : Hearing S F) (k : Verdict) (s : S) (a : ListAck) (t : S) → ack_body h k s ≡ Ok (a, t) → (ack_tag a ≡ k) × Stands h s (ack_rest a) t
+ack-wrote h verdicts.Accepted = way-keyed listing Ok ack_tag ack_rest verdicts.Accepted (λ _. refl) (λ _. refl) h
+ack-wrote h verdicts.Rejected = way-keyed reject_cause Err ack_tag ack_rest verdicts.Rejected (λ _. refl) (λ _. refl) h
 
-abbrev pub list_ack : Codec ListAck
-list_ack = keyed (spelt name.AcceptReject listed.verdict) (record { tag = ack_tag; rest = ack_rest; body = ack_body; reads = ack-reads; wrote = ack-wrote })
+abbrev pub list_ack : Form ListAck
+list_ack = keyed (element name.AcceptReject listed.verdict) (record { tag = ack_tag; rest = ack_rest; body = ack_body; reads = ack-reads; wrote = ack-wrote })

@@ -1,9 +1,7 @@
 -- A whole PDU: supplementary service, type of PDU, and what follows by the type.
-use Rattle.std.specs.Prelude.{◌≡◌, ℕ, List, Result, refl}
+use Rattle.std.specs.Prelude.{◌≡◌, List, ◌++◌, Ok, Result, refl}
+use Rattle.std.proofs.Common.{sym, ap, ◌∙◌, subst}
 use Rattle.bits.specs.declared.fault.ElementName.TheVariants as name
-use Rattle.bits.specs.declared.fault.Fault.{Fault}
-use Rattle.element.specs.Codecs.{Form, Nothing, Codec, Reader, lead}
-use Rattle.element.specs.Codings.{spelt}
 use Rattle.element.specs.Listed as listed
 use Rattle.element.specs.declared.listed.PduType.{PduType}
 use Rattle.element.specs.declared.listed.PduType.TheVariants as types
@@ -12,9 +10,11 @@ use Rattle.element.specs.declared.listed.SsType.TheVariants.{Ccbs}
 use Rattle.pdu.specs.Lists.{list_ack}
 use Rattle.pdu.specs.Parts.{ccbsi, call_identifier, list_request, key}
 use Rattle.pdu.specs.Pdus as pdus
-use Rattle.pdu.specs.Ways.{WaysReadBack, WaysAreWritten, way, way-reads, way-wrote, keyed}
 use Rattle.pdu.specs.declared.pdus.Pdu.{Pdu}
 use Rattle.pdu.specs.declared.pdus.Pdu.TheVariants as variants
+use Rattle.source.specs.Forms.{Form, Stands, element, way, way-reads, way-keyed, lead, and_then-from, ok_same, stands-append, stands-split}
+use Rattle.source.specs.Hearing.{Hearing, and_then}
+use Rattle.source.specs.declared.told.Told.{Told}
 
 abbrev pub type_of : Pdu → PduType
 type_of (variants.CallInformationRetention x) = types.CallInformationRetention
@@ -37,163 +37,145 @@ type_of (variants.Cancellation x) = types.Cancellation
 type_of (variants.Ccbsi x) = types.Ccbsi
 type_of (variants.CallInformationRelease x) = types.CallInformationRelease
 
--- the bits after the type
-abbrev pub body_bits : Pdu → List ℕ
-body_bits (variants.CallInformationRetention x) = (pdus.call_information_retention).enc x
-body_bits (variants.Cancel x) = ccbsi.enc x
-body_bits (variants.List x) = list_request.enc x
-body_bits (variants.Monitor x) = (pdus.monitor).enc x
-body_bits (variants.Recall x) = ccbsi.enc x
-body_bits (variants.Request x) = call_identifier.enc x
-body_bits (variants.ResumeCompletion x) = key.enc x
-body_bits (variants.CancelAck x) = (pdus.cancel_ack).enc x
-body_bits (variants.ListAck x) = list_ack.enc x
-body_bits (variants.MonitorAck x) = (pdus.monitor_ack).enc x
-body_bits (variants.RequestAck x) = (pdus.request_ack).enc x
-body_bits (variants.Cancelled x) = (pdus.cancelled).enc x
-body_bits (variants.Failed x) = (pdus.failed).enc x
-body_bits (variants.FreeNotification x) = key.enc x
-body_bits (variants.SuspendCompletion x) = key.enc x
-body_bits (variants.UserBFree x) = ccbsi.enc x
-body_bits (variants.Cancellation x) = (pdus.cancellation).enc x
-body_bits (variants.Ccbsi x) = ccbsi.enc x
-body_bits (variants.CallInformationRelease x) = call_identifier.enc x
+-- what is told after the type
+abbrev pub body_told : Pdu → List Told
+body_told (variants.CallInformationRetention x) = pdus.call_information_retention.tell x
+body_told (variants.Cancel x) = ccbsi.tell x
+body_told (variants.List x) = list_request.tell x
+body_told (variants.Monitor x) = pdus.monitor.tell x
+body_told (variants.Recall x) = ccbsi.tell x
+body_told (variants.Request x) = call_identifier.tell x
+body_told (variants.ResumeCompletion x) = key.tell x
+body_told (variants.CancelAck x) = pdus.cancel_ack.tell x
+body_told (variants.ListAck x) = list_ack.tell x
+body_told (variants.MonitorAck x) = pdus.monitor_ack.tell x
+body_told (variants.RequestAck x) = pdus.request_ack_told x
+body_told (variants.Cancelled x) = pdus.cancelled.tell x
+body_told (variants.Failed x) = pdus.failed.tell x
+body_told (variants.FreeNotification x) = key.tell x
+body_told (variants.SuspendCompletion x) = key.tell x
+body_told (variants.UserBFree x) = ccbsi.tell x
+body_told (variants.Cancellation x) = pdus.cancellation.tell x
+body_told (variants.Ccbsi x) = ccbsi.tell x
+body_told (variants.CallInformationRelease x) = call_identifier.tell x
+
+abbrev pub request_ack_heard : {S F : Type 0} → Hearing S F → S → Result (Pdu × S) F
+request_ack_heard h s = and_then (pdus.request_ack_hear h s) (λ a t. Ok (variants.RequestAck a, t))
 
 -- what follows the type, as a PDU
-abbrev pub call_information_retention_body : Reader Pdu
-call_information_retention_body = way pdus.call_information_retention variants.CallInformationRetention
+abbrev pub body : {S F : Type 0} → Hearing S F → PduType → S → Result (Pdu × S) F
+body h types.CallInformationRetention = way pdus.call_information_retention variants.CallInformationRetention h
+body h types.Cancel = way ccbsi variants.Cancel h
+body h types.List = way list_request variants.List h
+body h types.Monitor = way pdus.monitor variants.Monitor h
+body h types.Recall = way ccbsi variants.Recall h
+body h types.Request = way call_identifier variants.Request h
+body h types.ResumeCompletion = way key variants.ResumeCompletion h
+body h types.CancelAck = way pdus.cancel_ack variants.CancelAck h
+body h types.ListAck = way list_ack variants.ListAck h
+body h types.MonitorAck = way pdus.monitor_ack variants.MonitorAck h
+body h types.RequestAck = request_ack_heard h
+body h types.Cancelled = way pdus.cancelled variants.Cancelled h
+body h types.Failed = way pdus.failed variants.Failed h
+body h types.FreeNotification = way key variants.FreeNotification h
+body h types.SuspendCompletion = way key variants.SuspendCompletion h
+body h types.UserBFree = way ccbsi variants.UserBFree h
+body h types.Cancellation = way pdus.cancellation variants.Cancellation h
+body h types.Ccbsi = way ccbsi variants.Ccbsi h
+body h types.CallInformationRelease = way call_identifier variants.CallInformationRelease h
 
-abbrev pub cancel_body : Reader Pdu
-cancel_body = way ccbsi variants.Cancel
+-- what the source has to say before it reads a PDU back: which answer to REQUEST stands there
+abbrev pub Agrees : {S F : Type 0} → Hearing S F → S → Pdu → Type 0
+Agrees h s (variants.CallInformationRetention x) = Unit {0}
+Agrees h s (variants.Cancel x) = Unit {0}
+Agrees h s (variants.List x) = Unit {0}
+Agrees h s (variants.Monitor x) = Unit {0}
+Agrees h s (variants.Recall x) = Unit {0}
+Agrees h s (variants.Request x) = Unit {0}
+Agrees h s (variants.ResumeCompletion x) = Unit {0}
+Agrees h s (variants.CancelAck x) = Unit {0}
+Agrees h s (variants.ListAck x) = Unit {0}
+Agrees h s (variants.MonitorAck x) = Unit {0}
+Agrees h s (variants.RequestAck x) = h.rejects s ≡ pdus.is_rejection x
+Agrees h s (variants.Cancelled x) = Unit {0}
+Agrees h s (variants.Failed x) = Unit {0}
+Agrees h s (variants.FreeNotification x) = Unit {0}
+Agrees h s (variants.SuspendCompletion x) = Unit {0}
+Agrees h s (variants.UserBFree x) = Unit {0}
+Agrees h s (variants.Cancellation x) = Unit {0}
+Agrees h s (variants.Ccbsi x) = Unit {0}
+Agrees h s (variants.CallInformationRelease x) = Unit {0}
 
-abbrev pub list_body : Reader Pdu
-list_body = way list_request variants.List
+pub body-reads : {S F : Type 0} (h : Hearing S F) (s : S) (p : Pdu) (t : S) → Agrees h s p → Stands h s (body_told p) t → body h (type_of p) s ≡ Ok (p, t)
+body-reads h s (variants.CallInformationRetention x) t _ q = way-reads pdus.call_information_retention variants.CallInformationRetention h s x t q
+body-reads h s (variants.Cancel x) t _ q = way-reads ccbsi variants.Cancel h s x t q
+body-reads h s (variants.List x) t _ q = way-reads list_request variants.List h s x t q
+body-reads h s (variants.Monitor x) t _ q = way-reads pdus.monitor variants.Monitor h s x t q
+body-reads h s (variants.Recall x) t _ q = way-reads ccbsi variants.Recall h s x t q
+body-reads h s (variants.Request x) t _ q = way-reads call_identifier variants.Request h s x t q
+body-reads h s (variants.ResumeCompletion x) t _ q = way-reads key variants.ResumeCompletion h s x t q
+body-reads h s (variants.CancelAck x) t _ q = way-reads pdus.cancel_ack variants.CancelAck h s x t q
+body-reads h s (variants.ListAck x) t _ q = way-reads list_ack variants.ListAck h s x t q
+body-reads h s (variants.MonitorAck x) t _ q = way-reads pdus.monitor_ack variants.MonitorAck h s x t q
+body-reads h s (variants.RequestAck x) t a q = ap (λ r. and_then r (λ a t. Ok (variants.RequestAck a, t))) (pdus.request_ack-reads h s x t a q)
+body-reads h s (variants.Cancelled x) t _ q = way-reads pdus.cancelled variants.Cancelled h s x t q
+body-reads h s (variants.Failed x) t _ q = way-reads pdus.failed variants.Failed h s x t q
+body-reads h s (variants.FreeNotification x) t _ q = way-reads key variants.FreeNotification h s x t q
+body-reads h s (variants.SuspendCompletion x) t _ q = way-reads key variants.SuspendCompletion h s x t q
+body-reads h s (variants.UserBFree x) t _ q = way-reads ccbsi variants.UserBFree h s x t q
+body-reads h s (variants.Cancellation x) t _ q = way-reads pdus.cancellation variants.Cancellation h s x t q
+body-reads h s (variants.Ccbsi x) t _ q = way-reads ccbsi variants.Ccbsi h s x t q
+body-reads h s (variants.CallInformationRelease x) t _ q = way-reads call_identifier variants.CallInformationRelease h s x t q
 
-abbrev pub monitor_body : Reader Pdu
-monitor_body = way pdus.monitor variants.Monitor
+request_ack-wrote : {S F : Type 0} (h : Hearing S F) (s : S) (p : Pdu) (t : S) → request_ack_heard h s ≡ Ok (p, t) → (type_of p ≡ types.RequestAck) × Stands h s (body_told p) t
+request_ack-wrote h s p t q =
+    let i = and_then-from (pdus.request_ack_hear h s) (λ a t. Ok (variants.RequestAck a, t)) (p, t) q in
+    let e = ok_same (variants.RequestAck i.0.0, i.0.1) (p, t) i.2 in
+    (ap (λ z. type_of z.0) (sym e), subst (λ z. Stands h s (body_told z.0) z.1) e (pdus.request_ack-wrote h s i.0.0 i.0.1 i.1))
 
-abbrev pub recall_body : Reader Pdu
-recall_body = way ccbsi variants.Recall
-
-abbrev pub request_body : Reader Pdu
-request_body = way call_identifier variants.Request
-
-abbrev pub resume_completion_body : Reader Pdu
-resume_completion_body = way key variants.ResumeCompletion
-
-abbrev pub cancel_ack_body : Reader Pdu
-cancel_ack_body = way pdus.cancel_ack variants.CancelAck
-
-abbrev pub list_ack_body : Reader Pdu
-list_ack_body = way list_ack variants.ListAck
-
-abbrev pub monitor_ack_body : Reader Pdu
-monitor_ack_body = way pdus.monitor_ack variants.MonitorAck
-
-abbrev pub request_ack_body : Reader Pdu
-request_ack_body = way pdus.request_ack variants.RequestAck
-
-abbrev pub cancelled_body : Reader Pdu
-cancelled_body = way pdus.cancelled variants.Cancelled
-
-abbrev pub failed_body : Reader Pdu
-failed_body = way pdus.failed variants.Failed
-
-abbrev pub free_notification_body : Reader Pdu
-free_notification_body = way key variants.FreeNotification
-
-abbrev pub suspend_completion_body : Reader Pdu
-suspend_completion_body = way key variants.SuspendCompletion
-
-abbrev pub user_bfree_body : Reader Pdu
-user_bfree_body = way ccbsi variants.UserBFree
-
-abbrev pub cancellation_body : Reader Pdu
-cancellation_body = way pdus.cancellation variants.Cancellation
-
-abbrev pub ccbsi_body : Reader Pdu
-ccbsi_body = way ccbsi variants.Ccbsi
-
-abbrev pub call_information_release_body : Reader Pdu
-call_information_release_body = way call_identifier variants.CallInformationRelease
-
-abbrev pub body : PduType → Reader Pdu
-body types.CallInformationRetention = call_information_retention_body
-body types.Cancel = cancel_body
-body types.List = list_body
-body types.Monitor = monitor_body
-body types.Recall = recall_body
-body types.Request = request_body
-body types.ResumeCompletion = resume_completion_body
-body types.CancelAck = cancel_ack_body
-body types.ListAck = list_ack_body
-body types.MonitorAck = monitor_ack_body
-body types.RequestAck = request_ack_body
-body types.Cancelled = cancelled_body
-body types.Failed = failed_body
-body types.FreeNotification = free_notification_body
-body types.SuspendCompletion = suspend_completion_body
-body types.UserBFree = user_bfree_body
-body types.Cancellation = cancellation_body
-body types.Ccbsi = ccbsi_body
-body types.CallInformationRelease = call_information_release_body
-
-pub body_reads : WaysReadBack type_of body_bits body Nothing
-body_reads (variants.CallInformationRetention x) all at more _ = way-reads pdus.call_information_retention variants.CallInformationRetention x all at more tt
-body_reads (variants.Cancel x) all at more _ = way-reads ccbsi variants.Cancel x all at more tt
-body_reads (variants.List x) all at more _ = way-reads list_request variants.List x all at more tt
-body_reads (variants.Monitor x) all at more _ = way-reads pdus.monitor variants.Monitor x all at more tt
-body_reads (variants.Recall x) all at more _ = way-reads ccbsi variants.Recall x all at more tt
-body_reads (variants.Request x) all at more _ = way-reads call_identifier variants.Request x all at more tt
-body_reads (variants.ResumeCompletion x) all at more _ = way-reads key variants.ResumeCompletion x all at more tt
-body_reads (variants.CancelAck x) all at more _ = way-reads pdus.cancel_ack variants.CancelAck x all at more tt
-body_reads (variants.ListAck x) all at more _ = way-reads list_ack variants.ListAck x all at more tt
-body_reads (variants.MonitorAck x) all at more _ = way-reads pdus.monitor_ack variants.MonitorAck x all at more tt
-body_reads (variants.RequestAck x) all at more none = way-reads pdus.request_ack variants.RequestAck x all at more none
-body_reads (variants.Cancelled x) all at more _ = way-reads pdus.cancelled variants.Cancelled x all at more tt
-body_reads (variants.Failed x) all at more _ = way-reads pdus.failed variants.Failed x all at more tt
-body_reads (variants.FreeNotification x) all at more _ = way-reads key variants.FreeNotification x all at more tt
-body_reads (variants.SuspendCompletion x) all at more _ = way-reads key variants.SuspendCompletion x all at more tt
-body_reads (variants.UserBFree x) all at more _ = way-reads ccbsi variants.UserBFree x all at more tt
-body_reads (variants.Cancellation x) all at more _ = way-reads pdus.cancellation variants.Cancellation x all at more tt
-body_reads (variants.Ccbsi x) all at more _ = way-reads ccbsi variants.Ccbsi x all at more tt
-body_reads (variants.CallInformationRelease x) all at more _ = way-reads call_identifier variants.CallInformationRelease x all at more tt
-
-pub body-wrote : WaysAreWritten type_of body_bits body
-body-wrote types.CallInformationRetention = way-wrote pdus.call_information_retention variants.CallInformationRetention type_of body_bits types.CallInformationRetention (λ _. refl) (λ _. refl)
-body-wrote types.Cancel = way-wrote ccbsi variants.Cancel type_of body_bits types.Cancel (λ _. refl) (λ _. refl)
-body-wrote types.List = way-wrote list_request variants.List type_of body_bits types.List (λ _. refl) (λ _. refl)
-body-wrote types.Monitor = way-wrote pdus.monitor variants.Monitor type_of body_bits types.Monitor (λ _. refl) (λ _. refl)
-body-wrote types.Recall = way-wrote ccbsi variants.Recall type_of body_bits types.Recall (λ _. refl) (λ _. refl)
-body-wrote types.Request = way-wrote call_identifier variants.Request type_of body_bits types.Request (λ _. refl) (λ _. refl)
-body-wrote types.ResumeCompletion = way-wrote key variants.ResumeCompletion type_of body_bits types.ResumeCompletion (λ _. refl) (λ _. refl)
-body-wrote types.CancelAck = way-wrote pdus.cancel_ack variants.CancelAck type_of body_bits types.CancelAck (λ _. refl) (λ _. refl)
-body-wrote types.ListAck = way-wrote list_ack variants.ListAck type_of body_bits types.ListAck (λ _. refl) (λ _. refl)
-body-wrote types.MonitorAck = way-wrote pdus.monitor_ack variants.MonitorAck type_of body_bits types.MonitorAck (λ _. refl) (λ _. refl)
-body-wrote types.RequestAck = way-wrote pdus.request_ack variants.RequestAck type_of body_bits types.RequestAck (λ _. refl) (λ _. refl)
-body-wrote types.Cancelled = way-wrote pdus.cancelled variants.Cancelled type_of body_bits types.Cancelled (λ _. refl) (λ _. refl)
-body-wrote types.Failed = way-wrote pdus.failed variants.Failed type_of body_bits types.Failed (λ _. refl) (λ _. refl)
-body-wrote types.FreeNotification = way-wrote key variants.FreeNotification type_of body_bits types.FreeNotification (λ _. refl) (λ _. refl)
-body-wrote types.SuspendCompletion = way-wrote key variants.SuspendCompletion type_of body_bits types.SuspendCompletion (λ _. refl) (λ _. refl)
-body-wrote types.UserBFree = way-wrote ccbsi variants.UserBFree type_of body_bits types.UserBFree (λ _. refl) (λ _. refl)
-body-wrote types.Cancellation = way-wrote pdus.cancellation variants.Cancellation type_of body_bits types.Cancellation (λ _. refl) (λ _. refl)
-body-wrote types.Ccbsi = way-wrote ccbsi variants.Ccbsi type_of body_bits types.Ccbsi (λ _. refl) (λ _. refl)
-body-wrote types.CallInformationRelease = way-wrote call_identifier variants.CallInformationRelease type_of body_bits types.CallInformationRelease (λ _. refl) (λ _. refl)
+pub body-wrote : {S F : Type 0} (h : Hearing S F) (k : PduType) (s : S) (p : Pdu) (t : S) → body h k s ≡ Ok (p, t) → (type_of p ≡ k) × Stands h s (body_told p) t
+body-wrote h types.CallInformationRetention = way-keyed pdus.call_information_retention variants.CallInformationRetention type_of body_told types.CallInformationRetention (λ _. refl) (λ _. refl) h
+body-wrote h types.Cancel = way-keyed ccbsi variants.Cancel type_of body_told types.Cancel (λ _. refl) (λ _. refl) h
+body-wrote h types.List = way-keyed list_request variants.List type_of body_told types.List (λ _. refl) (λ _. refl) h
+body-wrote h types.Monitor = way-keyed pdus.monitor variants.Monitor type_of body_told types.Monitor (λ _. refl) (λ _. refl) h
+body-wrote h types.Recall = way-keyed ccbsi variants.Recall type_of body_told types.Recall (λ _. refl) (λ _. refl) h
+body-wrote h types.Request = way-keyed call_identifier variants.Request type_of body_told types.Request (λ _. refl) (λ _. refl) h
+body-wrote h types.ResumeCompletion = way-keyed key variants.ResumeCompletion type_of body_told types.ResumeCompletion (λ _. refl) (λ _. refl) h
+body-wrote h types.CancelAck = way-keyed pdus.cancel_ack variants.CancelAck type_of body_told types.CancelAck (λ _. refl) (λ _. refl) h
+body-wrote h types.ListAck = way-keyed list_ack variants.ListAck type_of body_told types.ListAck (λ _. refl) (λ _. refl) h
+body-wrote h types.MonitorAck = way-keyed pdus.monitor_ack variants.MonitorAck type_of body_told types.MonitorAck (λ _. refl) (λ _. refl) h
+body-wrote h types.RequestAck = request_ack-wrote h
+body-wrote h types.Cancelled = way-keyed pdus.cancelled variants.Cancelled type_of body_told types.Cancelled (λ _. refl) (λ _. refl) h
+body-wrote h types.Failed = way-keyed pdus.failed variants.Failed type_of body_told types.Failed (λ _. refl) (λ _. refl) h
+body-wrote h types.FreeNotification = way-keyed key variants.FreeNotification type_of body_told types.FreeNotification (λ _. refl) (λ _. refl) h
+body-wrote h types.SuspendCompletion = way-keyed key variants.SuspendCompletion type_of body_told types.SuspendCompletion (λ _. refl) (λ _. refl) h
+body-wrote h types.UserBFree = way-keyed ccbsi variants.UserBFree type_of body_told types.UserBFree (λ _. refl) (λ _. refl) h
+body-wrote h types.Cancellation = way-keyed pdus.cancellation variants.Cancellation type_of body_told types.Cancellation (λ _. refl) (λ _. refl) h
+body-wrote h types.Ccbsi = way-keyed ccbsi variants.Ccbsi type_of body_told types.Ccbsi (λ _. refl) (λ _. refl) h
+body-wrote h types.CallInformationRelease = way-keyed call_identifier variants.CallInformationRelease type_of body_told types.CallInformationRelease (λ _. refl) (λ _. refl) h
 
 pub only-ccbs : (s : SsType) → Ccbs ≡ s
 only-ccbs Ccbs = refl
 
 -- the supplementary service and the type of PDU
-abbrev pub head : Codec PduType
-head = lead (spelt name.SsType listed.ss_type) Ccbs only-ccbs (spelt name.PduType listed.pdu_type)
+abbrev pub head : Form PduType
+head = lead (element name.SsType listed.ss_type) Ccbs only-ccbs (element name.PduType listed.pdu_type)
 
-abbrev pub pdu : Form Nothing Pdu
-pdu = keyed head (record { tag = type_of; rest = body_bits; body = body; reads = body_reads; wrote = body-wrote })
+-- what a PDU tells
+abbrev pub told_of : Pdu → List Told
+told_of p = head.tell (type_of p) ++ body_told p
 
--- the bits of a PDU
-abbrev pub bits_of_pdu : Pdu → List ℕ
-bits_of_pdu = pdu.enc
+-- the PDU that begins here
+abbrev pub pdu_hear : {S F : Type 0} → Hearing S F → S → Result (Pdu × S) F
+pdu_hear h s = and_then (head.hear h s) (body h)
 
--- the PDU at the start of the bits, and the place after it
-unfoldable pub reading : List ℕ → Result (Pdu × ℕ) Fault
-reading all = pdu.dec all 0
+pub pdu-reads : {S F : Type 0} (h : Hearing S F) (s : S) (p : Pdu) (t : S) → ((u : S) → Stands h s (head.tell (type_of p)) u → Agrees h u p) → Stands h s (told_of p) t → pdu_hear h s ≡ Ok (p, t)
+pdu-reads h s p t agrees q =
+    let k = stands-split h (head.tell (type_of p)) (body_told p) s t q in
+    ap (λ r. and_then r (body h)) (head.reads h s (type_of p) k.0 k.1) ∙ body-reads h k.0 p t (agrees k.0 k.1) k.2
+
+pub pdu-wrote : {S F : Type 0} (h : Hearing S F) (s : S) (p : Pdu) (t : S) → pdu_hear h s ≡ Ok (p, t) → Stands h s (told_of p) t
+pdu-wrote h s p t q =
+    let i = and_then-from (head.hear h s) (body h) (p, t) q in
+    let j = body-wrote h i.0.0 i.0.1 p t i.2 in
+    stands-append h (head.tell (type_of p)) (body_told p) s i.0.1 t (subst (λ k. Stands h s (head.tell k) i.0.1) (sym j.0) (head.wrote h s i.0.0 i.0.1 i.1)) j.1

@@ -1,4 +1,4 @@
-// What the PDUs hold, in the order of their tables.
+// What the PDUs hold: one field for each element of their tables, so priority and service stand apart as they do there.
 use crate::lists::ListAck;
 use element::{
     CalledType, CancellationCause, ClirColr, FailureCause, ListRequest, RejectCause,
@@ -7,13 +7,9 @@ use element::{
 use fields::{AreaSelection, CallIdentifier, Identifier, Identity, Key, Priority, Service};
 
 // The verdict, with its cause where there is one.
-#[derive(Clone, Copy)]
-pub enum Outcome {
-    Accepted,
-    Rejected(RejectCause),
-}
+pub type Outcome = Result<(), RejectCause>;
 
-#[derive(Clone, Copy)]
+#[derive(Clone, Copy, PartialEq, Eq, Debug)]
 pub struct CallInformationRetention {
     pub call_identifier: CallIdentifier,
     pub area_selection: AreaSelection,
@@ -23,7 +19,7 @@ pub struct CallInformationRetention {
     pub called: Identity,
 }
 
-#[derive(Clone, Copy)]
+#[derive(Clone, Copy, PartialEq, Eq, Debug)]
 pub struct Monitor {
     pub key: Key,
     pub call_priority: Priority,
@@ -31,13 +27,13 @@ pub struct Monitor {
     pub retain_capability: RetainCapability,
 }
 
-#[derive(Clone, Copy)]
+#[derive(Clone, Copy, PartialEq, Eq, Debug)]
 pub struct CancelAck {
     pub ccbsi: Identifier,
     pub outcome: Outcome,
 }
 
-#[derive(Clone, Copy)]
+#[derive(Clone, Copy, PartialEq, Eq, Debug)]
 pub struct MonitorAck {
     pub key: Key,
     pub outcome: Outcome,
@@ -47,7 +43,7 @@ pub struct MonitorAck {
     pub retain_capability: Option<RetainCapability>,
 }
 
-#[derive(Clone, Copy)]
+#[derive(Clone, Copy, PartialEq, Eq, Debug)]
 pub struct RequestAccepted {
     pub ccbsi: Identifier,
     pub call_identifier: CallIdentifier,
@@ -57,7 +53,7 @@ pub struct RequestAccepted {
     pub called: Identity,
 }
 
-#[derive(Clone, Copy)]
+#[derive(Clone, Copy, PartialEq, Eq, Debug)]
 pub struct RequestRejected {
     pub call_identifier: CallIdentifier,
     pub call_priority: Priority,
@@ -67,32 +63,28 @@ pub struct RequestRejected {
     pub called: Identity,
 }
 
-#[derive(Clone, Copy)]
-pub enum RequestAck {
-    Accepted(RequestAccepted),
-    Rejected(RequestRejected),
-}
+pub type RequestAck = Result<RequestAccepted, RequestRejected>;
 
-#[derive(Clone, Copy)]
+#[derive(Clone, Copy, PartialEq, Eq, Debug)]
 pub struct Cancelled {
     pub ccbsi: Identifier,
     pub cancellation_cause: CancellationCause,
 }
 
-#[derive(Clone, Copy)]
+#[derive(Clone, Copy, PartialEq, Eq, Debug)]
 pub struct Failed {
     pub ccbsi: Identifier,
     pub failure_cause: FailureCause,
     pub request_maintained: bool,
 }
 
-#[derive(Clone, Copy)]
+#[derive(Clone, Copy, PartialEq, Eq, Debug)]
 pub struct Cancellation {
     pub key: Key,
     pub cancellation_cause: CancellationCause,
 }
 
-#[derive(Clone, Copy)]
+#[derive(Clone, PartialEq, Eq, Debug, Drop)]
 pub enum Pdu {
     CallInformationRetention(CallInformationRetention),
     Cancel(Identifier),

@@ -6,6 +6,7 @@ use crate::pdus::Pdu;
 use element::PduType;
 
 impl Pdu {
+    // A method and no `From`: it tells one thing of the PDU, and does not make another form of it.
     pub fn pdu_type(&self) -> PduType
         ensures { result ≡ type_of self.now }
     {

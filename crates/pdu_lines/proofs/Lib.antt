@@ -1,2 +1,1 @@
 mod Images
-mod Replies

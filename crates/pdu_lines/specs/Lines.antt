@@ -1,5 +1,6 @@
 -- The PDU that a line holds, and what is answered.
-use Rattle.std.specs.Prelude.{ℕ, cond, List, [], ◌∷◌, ◌++◌, Some, None, Ok, Err, codes, decimal, Option, Result}
+use Rattle.std.specs.Prelude.{◌≡◌, ℕ, cond, List, [], ◌∷◌, ◌++◌, Some, None, Ok, Err, codes, decimal, Option, Result}
+use Rattle.std.specs.Bool.{⊤}
 use Rattle.std.specs.Str.{bytes_eq}
 use Rattle.bits.specs.Faults.{fault_number}
 use Rattle.bits.specs.declared.fault.ElementName.{ElementName}
@@ -18,6 +19,8 @@ use Rattle.field_text.specs.declared.fault.TextFault.TheVariants.{Unreadable}
 use Rattle.pdu_text.specs.Whole.{pdu_text, pdu_heard}
 use Rattle.pdu_lines.specs.declared.lines.Line.{Line}
 use Rattle.pdu_lines.specs.declared.lines.Line.TheVariants as lines
+use Rattle.pdu_lines.specs.declared.lines.LineError.{LineError}
+use Rattle.pdu_lines.specs.declared.lines.LineError.TheVariants as errors
 use Rattle.pdu_lines.specs.declared.lines.LineFault.{LineFault}
 use Rattle.pdu_lines.specs.declared.lines.LineFault.TheVariants as faults
 
@@ -54,6 +57,12 @@ line_of [] = unreadable
 line_of (word ∷ rest) =
     cond (bytes_eq word (codes "d")) (bits_line rest) (cond (bytes_eq word (codes "e")) (from_text (pdu_heard rest)) unreadable)
 
+-- what reading says of the line that is to be read: nothing where memory ran out
+abbrev pub Reads : Result Line LineError → Result Line LineFault → Type 0
+Reads (Ok line) wanted = wanted ≡ Ok line
+Reads (Err (errors.Fault e)) wanted = wanted ≡ Err e
+Reads (Err (errors.OutOfMemory e)) wanted = ⊤
+
 abbrev pub layer_name : Layer → List ℕ
 layer_name layers.Bits = codes "bits"
 layer_name layers.Element = codes "element"
@@ -67,6 +76,10 @@ element_name (Some e) = field_name e
 abbrev pub fault_text : Fault → List ℕ
 fault_text f = decimal (fault_number f) ++ (32 ∷ (layer_name f.layer ++ (32 ∷ (element_name f.element ++ (32 ∷ decimal f.position)))))
 
+abbrev pub line_fault_text : LineFault → List ℕ
+line_fault_text (faults.Bits e) = fault_text e
+line_fault_text (faults.Text e) = decimal (text_fault_number e)
+
 -- bytes in hex, a space and the count of bits
 abbrev pub image_text : List ℕ × ℕ → List ℕ
 image_text i = hex_of i.0 ++ (32 ∷ decimal i.1)
@@ -75,8 +88,7 @@ image_text i = hex_of i.0 ++ (32 ∷ decimal i.1)
 abbrev pub reply_text : Result Line LineFault → List ℕ
 reply_text (Ok (lines.Bits p)) = codes "0 " ++ pdu_text p
 reply_text (Ok (lines.Text p)) = codes "0 " ++ image_text (image_of p)
-reply_text (Err (faults.Bits e)) = fault_text e
-reply_text (Err (faults.Text e)) = decimal (text_fault_number e)
+reply_text (Err e) = line_fault_text e
 
 abbrev pub answer_of : List ℕ → List ℕ
 answer_of line = reply_text (line_of (words line))

@@ -2,8 +2,10 @@
 use bits::Fault;
 use field_text::TextFault;
 use pdu::Pdu;
+use std::alloc::AllocError;
 
-#[derive(Clone, Copy)]
+// It is read first and answered after, since only then it is known in which form to write.
+#[derive(PartialEq, Eq, Debug, Drop)]
 pub enum Line {
     // given in bits, to be told as text
     Bits(Pdu),
@@ -11,8 +13,16 @@ pub enum Line {
     Text(Pdu),
 }
 
-#[derive(Clone, Copy)]
+#[derive(Clone, Copy, PartialEq, Eq, Debug)]
 pub enum LineFault {
     Bits(Fault),
     Text(TextFault),
+}
+
+// Why a line is not read.
+#[derive(Clone, Copy, PartialEq, Eq, Debug)]
+pub enum LineError {
+    Fault(LineFault),
+    // for the bytes that the line writes
+    OutOfMemory(AllocError),
 }

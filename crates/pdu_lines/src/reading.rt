@@ -4,20 +4,20 @@ ghost use Rattle.std.specs.Option.{option_map};
 ghost use Rattle.text.specs.Words.{words};
 ghost use Rattle.pdu.specs.Bytes.{decode};
 ghost use Rattle.pdu_text.specs.Whole.{pdu_heard};
-ghost use Rattle.pdu_lines.specs.Lines.{from_bits, from_text, bytes_word, bits_line, line_of};
+ghost use Rattle.pdu_lines.specs.Lines.{from_bits, from_text, bytes_word, bits_line, line_of, Reads};
 
-use crate::lines::{Line, LineFault};
-use field_text::TextFault;
+use crate::errors::UNREADABLE;
+use crate::lines::{Line, LineError, LineFault};
 use pdu_reading::read_pdu;
 use pdu_text_reading::read_text;
 use std::alloc::{AllocError, Global};
-use text::{hex_bytes, next_word, number, same_text};
+use text::{Words, hex_bytes, number};
 
 // The bytes of a word of hex digits; a dash is no bytes.
 fn bytes_word(heap: Global, word: &[u8]) -> Result<Option<Vec<u8>>, AllocError>
     ensures { IfOk result (λ o. option_map vec_items o ≡ bytes_word word.now) }
 {
-    if same_text(word, "-") {
+    if word == b"-".as_slice() {
         Ok(Some(Vec::new(heap)))
     } else {
         hex_bytes(heap, word)
@@ -27,50 +27,37 @@ fn bytes_word(heap: Global, word: &[u8]) -> Result<Option<Vec<u8>>, AllocError>
 fn from_bits(bytes: &[u8], count: usize) -> Result<Line, LineFault>
     ensures { result ≡ from_bits (decode bytes.now count) }
 {
-    match read_pdu(bytes, count) {
-        Ok(pdu) => Ok(Line::Bits(pdu)),
-        Err(fault) => Err(LineFault::Bits(fault)),
-    }
+    read_pdu(bytes, count)
+        .map(Line::Bits)
+        .map_err(LineFault::Bits)
 }
 
 fn from_text(text: &[u8]) -> Result<Line, LineFault>
     ensures { result ≡ from_text (pdu_heard (words text.now)) }
 {
-    match read_text(text) {
-        Ok(pdu) => Ok(Line::Text(pdu)),
-        Err(fault) => Err(LineFault::Text(fault)),
-    }
+    read_text(text).map(Line::Text).map_err(LineFault::Text)
 }
 
 // What follows a `d`: bytes and a count of bits.
-fn read_bits_line(heap: Global, rest: &[u8]) -> Result<Result<Line, LineFault>, AllocError>
-    ensures { IfOk result (λ x. x ≡ bits_line (words rest.now)) }
+fn read_bits_line(heap: Global, mut words: Words<'_>) -> Result<Line, LineError>
+    ensures { Reads result (bits_line words.entry) }
 {
-    let (word, after) = next_word(rest);
-    let (count, after) = next_word(after);
-    let (extra, _) = next_word(after);
-    if word.is_empty() || !extra.is_empty() {
-        return Ok(Err(LineFault::Text(TextFault::Unreadable)));
-    }
-    let Some(bytes) = bytes_word(heap, word)? else {
-        return Ok(Err(LineFault::Text(TextFault::Unreadable)));
+    let (Some(word), Some(count), None) = (words.next(), words.next(), words.next()) else {
+        return Err(LineError::Fault(UNREADABLE));
     };
-    let Some(bits) = number(count) else {
-        return Ok(Err(LineFault::Text(TextFault::Unreadable)));
-    };
-    Ok(from_bits(&bytes, bits as usize))
+    let bytes = bytes_word(heap, word)?.ok_or(UNREADABLE)?;
+    let count = number(count).ok_or(UNREADABLE)?;
+    Ok(from_bits(&bytes, count as usize)?)
 }
 
 // The PDU that the line holds.
-pub fn read_line(heap: Global, line: &[u8]) -> Result<Result<Line, LineFault>, AllocError>
-    ensures { IfOk result (λ x. x ≡ line_of (words line.now)) }
+pub fn read_line(heap: Global, line: &[u8]) -> Result<Line, LineError>
+    ensures { Reads result (line_of (words line.now)) }
 {
-    let (word, rest) = next_word(line);
-    if same_text(word, "d") {
-        read_bits_line(heap, rest)
-    } else if same_text(word, "e") {
-        Ok(from_text(rest))
-    } else {
-        Ok(Err(LineFault::Text(TextFault::Unreadable)))
+    let mut words = Words::of(line);
+    match words.next() {
+        Some(word) if word == b"d".as_slice() => read_bits_line(heap, words),
+        Some(word) if word == b"e".as_slice() => Ok(from_text(words.as_bytes())?),
+        _ => Err(LineError::Fault(UNREADABLE)),
     }
 }

@@ -1,11 +1,7 @@
-// Reading the nineteen PDUs.
+// Reading the nineteen PDUs from bytes.
 #![tactic(auto)]
 
-mod bodies;
-mod lists;
-mod parts;
-mod pdus;
-mod request_acks;
+mod bit_source;
 mod whole;
 
 pub use whole::read_pdu;

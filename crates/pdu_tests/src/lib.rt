@@ -8,7 +8,10 @@ mod tests {
     use fields::{
         AreaSelection, CallIdentifier, Identifier, Identity, Key, Priority, Refusal, Service,
     };
-    use pdu::{Monitor, MonitorAck, Outcome, Pdu, RequestAccepted, RequestAck, RequestRejected};
+    use pdu::{
+        Few, ListedRequest, Listing, Monitor, MonitorAck, Outcome, Pdu, RequestAccepted,
+        RequestRejected,
+    };
     use pdu_reading::read_pdu;
     use pdu_writing::write_pdu;
     use std::process::Abort;
@@ -16,9 +19,9 @@ mod tests {
 
     fn key() -> Result<Key, Refusal> {
         Ok(Key {
-            identifier: Identifier::new(1)?,
-            caller: Identity::new(1 << 24)?,
-            called: Identity::new(2 << 24)?,
+            identifier: Identifier::try_from(1)?,
+            caller: Identity::try_from(1 << 24)?,
+            called: Identity::try_from(2 << 24)?,
         })
     }
 
@@ -29,9 +32,9 @@ mod tests {
         Ok(Pdu::MonitorAck(MonitorAck {
             key: key()?,
             outcome,
-            call_priority: Priority::new(3)?,
-            basic_service: Service::new(5)?,
-            area_selection: AreaSelection::new(0)?,
+            call_priority: Priority::try_from(3)?,
+            basic_service: Service::try_from(5)?,
+            area_selection: AreaSelection::try_from(0)?,
             retain_capability,
         }))
     }
@@ -45,29 +48,19 @@ mod tests {
         if bytes > 34 {
             return Err(Fail::new("longer than any PDU"));
         }
-        let _ = read_pdu(&out[..bytes], count)?;
+        assert!(rt; read_pdu(&out[..bytes], count)? == *pdu);
         Ok(())
-    }
-
-    fn is_refused(rt: &impl Abort, bytes: &[u8], count: usize, fault: Fault) -> Result<(), Fail> {
-        match read_pdu(bytes, count) {
-            Ok(_) => Err(Fail::new("accepted")),
-            Err(found) => {
-                assert_eq!(rt; found, fault);
-                Ok(())
-            }
-        }
     }
 
     #[test]
     fn recall_has_14_bits(rt: HostRuntime) -> Result<(), Fail> {
-        let pdu = Pdu::Recall(Identifier::new(1)?);
+        let pdu = Pdu::Recall(Identifier::try_from(1)?);
         let mut out = [255u8; 3];
         assert_eq!(rt; write_pdu(&pdu, &mut out)?, 14);
-        assert!(rt; out[0] == 0x35 && out[1] == 0x24 && out[2] == 255);
+        assert_eq!(rt; out, [0x35, 0x24, 255]);
         let mut short = [255u8; 1];
-        assert!(rt; write_pdu(&pdu, &mut short).is_err());
-        assert!(rt; short[0] == 255);
+        assert_eq!(rt; write_pdu(&pdu, &mut short), Err(Refusal::TooLittleRoom));
+        assert_eq!(rt; short, [255]);
         Ok(())
     }
 
@@ -75,20 +68,20 @@ mod tests {
     fn monitors(rt: HostRuntime) -> Result<(), Fail> {
         let monitor = Pdu::Monitor(Monitor {
             key: key()?,
-            call_priority: Priority::new(3)?,
-            basic_service: Service::new(5)?,
+            call_priority: Priority::try_from(3)?,
+            basic_service: Service::try_from(5)?,
             retain_capability: RetainCapability::Retains,
         });
         has_bits(&rt, &monitor, 124)?;
-        has_bits(&rt, &monitor_ack(Outcome::Accepted, None)?, 128)?;
+        has_bits(&rt, &monitor_ack(Ok(()), None)?, 128)?;
         has_bits(
             &rt,
-            &monitor_ack(Outcome::Rejected(RejectCause::TooManyRemotely), None)?,
+            &monitor_ack(Err(RejectCause::TooManyRemotely), None)?,
             133,
         )?;
         has_bits(
             &rt,
-            &monitor_ack(Outcome::Accepted, Some(RetainCapability::Retains))?,
+            &monitor_ack(Ok(()), Some(RetainCapability::Retains))?,
             131,
         )
     }
@@ -96,23 +89,38 @@ mod tests {
     #[test]
     fn request_acks(rt: HostRuntime) -> Result<(), Fail> {
         let accepted = RequestAccepted {
-            ccbsi: Identifier::new(1)?,
-            call_identifier: CallIdentifier::new(9)?,
-            call_priority: Priority::new(3)?,
-            basic_service: Service::new(5)?,
+            ccbsi: Identifier::try_from(1)?,
+            call_identifier: CallIdentifier::try_from(9)?,
+            call_priority: Priority::try_from(3)?,
+            basic_service: Service::try_from(5)?,
             called_type: CalledType::Tsi,
-            called: Identity::new(2 << 24)?,
+            called: Identity::try_from(2 << 24)?,
         };
-        has_bits(&rt, &Pdu::RequestAck(RequestAck::Accepted(accepted)), 91)?;
+        has_bits(&rt, &Pdu::RequestAck(Ok(accepted)), 91)?;
         let rejected = RequestRejected {
-            call_identifier: CallIdentifier::new(9)?,
-            call_priority: Priority::new(3)?,
-            basic_service: Service::new(5)?,
+            call_identifier: CallIdentifier::try_from(9)?,
+            call_priority: Priority::try_from(3)?,
+            basic_service: Service::try_from(5)?,
             reject_cause: RejectCause::NotSubscribed,
             called_type: CalledType::Tsi,
-            called: Identity::new(2 << 24)?,
+            called: Identity::try_from(2 << 24)?,
         };
-        has_bits(&rt, &Pdu::RequestAck(RequestAck::Rejected(rejected)), 93)
+        has_bits(&rt, &Pdu::RequestAck(Err(rejected)), 93)
+    }
+
+    #[test]
+    fn longest_list_has_272_bits(rt: HostRuntime) -> Result<(), Fail> {
+        let mut few = Few::new();
+        for number in 1..6 {
+            few.push(ListedRequest {
+                ccbsi: Identifier::try_from(number)?,
+                called: Identity::try_from(number << 24)?,
+            });
+        }
+        let pdu = Pdu::ListAck(Ok(Listing::Details(few)));
+        has_bits(&rt, &pdu, 272)?;
+        assert!(rt; pdu.clone()? == pdu);
+        Ok(())
     }
 
     #[test]
@@ -123,35 +131,36 @@ mod tests {
             element: Some(ElementName::Ccbsi),
             position: 11,
         };
-        is_refused(&rt, &[0x35, 0x24], 13, cut)?;
+        assert_eq!(rt; read_pdu(&[0x35, 0x24], 13), Err(cut));
         let unknown_type = Fault {
             reason: Reason::NotListed,
             layer: Layer::Element,
             element: Some(ElementName::PduType),
             position: 6,
         };
-        is_refused(&rt, &[0x34, 0x48], 14, unknown_type)?;
+        assert_eq!(rt; read_pdu(&[0x34, 0x48], 14), Err(unknown_type));
         let padded = Fault {
             reason: Reason::LeftOver,
             layer: Layer::Pdu,
             element: None,
             position: 15,
         };
-        is_refused(&rt, &[0x35, 0x25], 14, padded)?;
+        assert_eq!(rt; read_pdu(&[0x35, 0x25], 14), Err(padded));
         let miscounted = Fault {
             reason: Reason::EndsInside,
             layer: Layer::Pdu,
             element: None,
             position: usize::MAX,
         };
-        is_refused(&rt, &[0x35, 0x24], usize::MAX, miscounted)
+        assert_eq!(rt; read_pdu(&[0x35, 0x24], usize::MAX), Err(miscounted));
+        Ok(())
     }
 
     #[test]
     fn present_but_none(rt: HostRuntime) -> Result<(), Fail> {
         let mut out = [0u8; 17];
         let _ = write_pdu(
-            &monitor_ack(Outcome::Accepted, Some(RetainCapability::Retains))?,
+            &monitor_ack(Ok(()), Some(RetainCapability::Retains))?,
             &mut out,
         )?;
         // the presence bit, after the bit 127 that announces the optional part
@@ -162,6 +171,7 @@ mod tests {
             element: Some(ElementName::Optional),
             position: 127,
         };
-        is_refused(&rt, &out, 131, none)
+        assert_eq!(rt; read_pdu(&out, 131), Err(none));
+        Ok(())
     }
 }

@@ -8,7 +8,8 @@ use Rattle.text.specs.Words.{before, words}
 use Rattle.field_text.specs.Fields.{words_of}
 use Rattle.field_text.proofs.FieldLaws.{solid, words-told}
 use Rattle.pdu_text.specs.Names.{pdu_name, is_named, pdu_named}
-use Rattle.pdu_text.specs.Whole.{fields_of, pdu_text, body-heard, ended, body_heard, pdu_heard}
+use Rattle.pdu_text.specs.Whole.{fields_of, pdu_text, ended, body_heard, pdu_heard}
+use Rattle.pdu_text.proofs.Heard.{body-heard}
 
 named_back : (t : PduType) → pdu_named (pdu_name t) ≡ Some t
 unfolding pdu_name is_named
@@ -77,9 +78,9 @@ name-first types.Ccbsi ws = refl
 name-first types.CallInformationRelease ws = refl
 
 -- the text of a PDU reads back as that PDU
-pub text-heard : (p : Pdu) → pdu_heard (words (pdu_text p)) ≡ Ok p
+pub text_heard : (p : Pdu) → pdu_heard (words (pdu_text p)) ≡ Ok p
 unfolding body_heard
-text-heard p =
+text_heard p =
     ap pdu_heard (words-told (pdu_name (type_of p)) (fields_of p) (solid-name (type_of p)) (name-first (type_of p)))
     ∙ ap (λ o. body_heard o (words_of (fields_of p))) (named_back (type_of p))
     ∙ ap ended (body-heard p)

@@ -1,6 +1,3 @@
-pub mod Forms
 pub mod Names
-pub mod Parts
-pub mod Pdus
-pub mod Lists
+pub mod Hearing
 pub mod Whole

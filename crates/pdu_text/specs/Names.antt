@@ -1,6 +1,7 @@
 -- The names of PDUs.
-use Rattle.std.specs.Prelude.{ℕ, Bool, cond, List, Some, None, codes, Option}
+use Rattle.std.specs.Prelude.{ℕ, Bool, List, codes, find, Option}
 use Rattle.std.specs.Str.{bytes_eq}
+use Rattle.element.specs.Listed.{pdu_type_values}
 use Rattle.element.specs.declared.listed.PduType.{PduType}
 use Rattle.element.specs.declared.listed.PduType.TheVariants as types
 
@@ -28,29 +29,6 @@ pdu_name types.CallInformationRelease = codes "CALL-INFORMATION-RELEASE"
 unfoldable pub is_named : List ℕ → PduType → Bool
 is_named word t = bytes_eq word (pdu_name t)
 
--- the type of a PDU that tells what has happened, by its name
-abbrev pub notice_named : List ℕ → Option PduType
-notice_named word =
-    cond (is_named word types.Cancelled) (Some types.Cancelled)
-    (cond (is_named word types.Failed) (Some types.Failed)
-    (cond (is_named word types.FreeNotification) (Some types.FreeNotification)
-    (cond (is_named word types.SuspendCompletion) (Some types.SuspendCompletion)
-    (cond (is_named word types.UserBFree) (Some types.UserBFree)
-    (cond (is_named word types.Cancellation) (Some types.Cancellation)
-    (cond (is_named word types.Ccbsi) (Some types.Ccbsi)
-    (cond (is_named word types.CallInformationRelease) (Some types.CallInformationRelease) None)))))))
-
 -- the type of the PDU with this name
 abbrev pub pdu_named : List ℕ → Option PduType
-pdu_named word =
-    cond (is_named word types.CallInformationRetention) (Some types.CallInformationRetention)
-    (cond (is_named word types.Cancel) (Some types.Cancel)
-    (cond (is_named word types.List) (Some types.List)
-    (cond (is_named word types.Monitor) (Some types.Monitor)
-    (cond (is_named word types.Recall) (Some types.Recall)
-    (cond (is_named word types.Request) (Some types.Request)
-    (cond (is_named word types.ResumeCompletion) (Some types.ResumeCompletion)
-    (cond (is_named word types.CancelAck) (Some types.CancelAck)
-    (cond (is_named word types.ListAck) (Some types.ListAck)
-    (cond (is_named word types.MonitorAck) (Some types.MonitorAck)
-    (cond (is_named word types.RequestAck) (Some types.RequestAck) (notice_named word)))))))))))
+pdu_named word = find (is_named word) pdu_type_values

@@ -1,10 +1,7 @@
-// Reading the text of a PDU.
+// Reading PDUs from text.
 #![tactic(auto)]
 
-pub mod lists;
-pub mod parts;
-pub mod pdus;
-pub mod request_acks;
-pub mod whole;
+mod text_source;
+mod whole;
 
 pub use whole::read_text;

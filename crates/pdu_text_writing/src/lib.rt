@@ -1,9 +1,7 @@
-// Writing the text of a PDU.
+// Writing PDUs as text.
 #![tactic(auto)]
 
-pub mod lists;
-pub mod parts;
-pub mod pdus;
-pub mod whole;
+mod told_fields;
+mod whole;
 
 pub use whole::write_text;

@@ -1,10 +1,7 @@
-// Writing the nineteen PDUs.
+// Writing the nineteen PDUs into bytes.
 #![tactic(auto)]
 
-mod bodies;
-mod lists;
-mod parts;
-mod pdus;
+mod spelling;
 mod whole;
 
 pub use whole::write_pdu;

@@ -1,120 +1,87 @@
-// Tables of records: one search and one count for every kind of record.
+// Tables of records: one search and one count for every kind of record. They go from the front,
+// since the first in a table came first.
 #![tactic(auto)]
 
-ghost use Rattle.std.specs.Prelude.{◌≡◌, ℕ, ◌<◌, ◌≤◌, Bool, true, ◌&&◌, length, IfSome, vec_len, vec_capacity, ◌==◌, nat_le};
-ghost use Rattle.fields.specs.declared.values.Identity.{Identity as Party};
-ghost use Rattle.record.specs.Search.{find_index, first_of, put_first, drop_first, count_of};
+ghost use Rattle.std.specs.Prelude.{◌≡◌, ℕ, ◌<◌, ◌≤◌, Bool, ◌&&◌, length, IfSome, vec_len, vec_capacity, find, position, nat_le, ◌==◌};
+ghost use Rattle.fields.specs.Values.{Identity as Party};
+ghost use Rattle.record.specs.Search.{Computes, put_first, drop_first, count_of};
 
 use fields::Identity;
 
-// A kind of record of which one party may have only so many.
+// A kind of record of which one party may have only so many: each kind has a limit of its own.
 pub trait Record {
-    const LIMIT: usize;
+    ghost LIMIT: { ℕ };
 
-    // The limit, for clauses.
-    ghost most: { ℕ };
+    const LIMIT: usize;
 
     // The party whose limit it is.
     ghost owned: { Self → Party };
-
-    // The limit.
-    fn allowed() -> usize
-        ensures { result ≡ most };
 
     // The party whose limit it is.
     fn owner(&self) -> Identity
         ensures { result ≡ owned self.now };
 }
 
-// A test that a record may pass.
-pub trait Test<R> {
-    ghost passes: { Self → R → Bool };
-
-    fn test(&self, item: &R) -> bool
-        ensures { result ≡ passes self.now item.now };
-}
-
-// Every record passes.
-#[derive(Clone, Copy)]
-pub struct Every;
-
-impl<R> Test<R> for Every {
-    ghost passes = { λ _ _. true };
-
-    fn test(&self, _item: &R) -> bool {
-        true
-    }
-}
-
 // The place of the first record that passes.
-pub fn find<R, T: Test<R>>(records: &[R], test: &T) -> Option<usize>
-    ensures place { result ≡ find_index (T.Test.passes test.now) records.now }
+pub fn position<R, F: Fn(&R) -> bool>(records: &[R], test: F) -> Option<usize>
+    requires { F.IsAlwaysCallable test }
+    ensures place { (p : R → Bool) → Computes F.Fn test p → result ≡ position p records.now }
     ensures within { IfSome result (λ i. i < length records.now) }
 {
-    for (i, item) in records.iter().enumerate() {
-        if test.test(item) {
-            return Some(i);
-        }
-    }
-    None
+    records.iter().position(test)
 }
 
 // The first record that passes.
-pub fn first<R: Copy, T: Test<R>>(records: &[R], test: &T) -> Option<R>
-    ensures { result ≡ first_of (T.Test.passes test.now) records.now }
+#[tactic(auto, using(std::proofs::lemmas::List::Folds::find_at, std::proofs::lemmas::Option::gets))]
+pub fn first<R: Copy, F: Fn(&R) -> bool>(records: &[R], test: F) -> Option<R>
+    requires { F.IsAlwaysCallable test }
+    ensures { (p : R → Bool) → Computes F.Fn test p → result ≡ find p records.now }
 {
-    match find(records, test) {
-        Some(i) => Some(records[i]),
-        None => None,
-    }
+    position(records, test).map(|i| records[i])
 }
 
-// Puts a record in the place of the first that passes.
-pub fn put_first<R: Copy, T: Test<R>>(records: &mut Vec<R>, test: &T, new: R)
-    ensures items { records.new.items ≡ put_first (T.Test.passes test.now) new records.old.items }
+// Puts a record in the place of the first that passes. The capacity is as it was: no memory may be had.
+pub fn put_first<R: Copy, F: Fn(&R) -> bool>(records: &mut Vec<R>, test: F, new: R)
+    requires { F.IsAlwaysCallable test }
+    ensures items { (p : R → Bool) → Computes F.Fn test p → records.new.items ≡ put_first p new records.old.items }
     ensures len { vec_len records.new ≡ vec_len records.old }
     ensures capacity { vec_capacity records.new ≡ vec_capacity records.old }
 {
-    if let Some(i) = find(records, test) {
+    if let Some(i) = position(records, test) {
         records[i] = new;
     }
 }
 
-// Erases the first record that passes; those after it keep their order.
-pub fn erase_first<R: Copy, T: Test<R>>(records: &mut Vec<R>, test: &T)
-    ensures items { records.new.items ≡ drop_first (T.Test.passes test.now) records.old.items }
+// Erases the first record that passes; those after it keep their order. No memory is had: the
+// capacity stays.
+pub fn erase_first<R: Copy, F: Fn(&R) -> bool>(records: &mut Vec<R>, test: F)
+    requires { F.IsAlwaysCallable test }
+    ensures items { (p : R → Bool) → Computes F.Fn test p → records.new.items ≡ drop_first p records.old.items }
     ensures len { vec_len records.new ≤ vec_len records.old }
     ensures capacity { vec_capacity records.new ≡ vec_capacity records.old }
 {
-    if let Some(i) = find(records, test) {
+    if let Some(i) = position(records, test) {
         let _ = records.remove(i);
     }
 }
 
-// Whether the record is the party's and passes.
-fn is_counted<R: Record, T: Test<R>>(item: &R, party: Identity, counted: &T) -> bool
-    ensures { result ≡ ((R.Record.owned item.now).bits == party.bits && T.Test.passes counted.now item.now) }
-{
-    item.owner().same(party) && counted.test(item)
-}
-
 // How many records of the party pass.
-pub fn count<R: Record, T: Test<R>>(records: &[R], party: Identity, counted: &T) -> usize
-    ensures { result ≡ count_of R.Record.owned (T.Test.passes counted.now) party records.now }
+#[tactic(auto, unfolding(crate::specs::Search::count_of))]
+pub fn count<R: Record, F: Fn(&R) -> bool>(records: &[R], party: Identity, counted: F) -> usize
+    requires { F.IsAlwaysCallable counted }
+    ensures { (p : R → Bool) → Computes F.Fn counted p → result ≡ count_of R.Record.owned p party records.now }
 {
-    let mut n = 0;
-    for item in records {
-        if is_counted(item, party, counted) {
-            n += 1;
-        }
-    }
-    n
+    records
+        .iter()
+        .filter(|item| item.owner() == party && counted(item))
+        .count()
 }
 
 // Whether the party has as many records as it may have, of those that pass. What counts is a test,
 // since it may depend on more than the record, as on the clock.
-pub fn at_limit<R: Record, T: Test<R>>(records: &[R], party: Identity, counted: &T) -> bool
-    ensures { result ≡ nat_le R.Record.most (count_of R.Record.owned (T.Test.passes counted.now) party records.now) }
+pub fn at_limit<R: Record, F: Fn(&R) -> bool>(records: &[R], party: Identity, counted: F) -> bool
+    requires { F.IsAlwaysCallable counted }
+    ensures { (p : R → Bool) → Computes F.Fn counted p → result ≡ nat_le R.Record.LIMIT (count_of R.Record.owned p party records.now) }
 {
-    count(records, party, counted) >= R::allowed()
+    count(records, party, counted) >= R::LIMIT
 }

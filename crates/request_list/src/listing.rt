@@ -1,43 +1,36 @@
 // The requests to be listed, by number.
-ghost use Rattle.std.specs.Prelude.{◌≡◌};
-ghost use Rattle.request_list.specs.Lists.{listed_after, listed_next, five_of, listed};
+ghost use Rattle.std.specs.Prelude.{◌≡◌, map};
+ghost use Rattle.request_list.specs.Lists.{entry_of, listed_after, five_of, listed};
 
-use crate::entries::{FirstFive, ListedRequest};
+use crate::entries::ListedRequest;
+use arrayvec::ArrayVec;
 use fields::{Identity, Refusal};
 use requests::Request;
 use requests::least::smallest;
-use requests::seeks::ListedAfter;
+
+// How many requests are listed at most.
+const ENTRIES: usize = 5;
 
 fn listed_after(requests: &[Request], caller: Identity, last: u64) -> Option<Request>
     ensures { result ≡ listed_after requests.now caller last }
 {
-    smallest(requests, &ListedAfter { caller, last })
+    smallest(requests, |request| request.is_listed(caller, last))
 }
 
-fn listed_next(requests: &[Request], caller: Identity, last: Option<Request>) -> Option<Request>
-    ensures { result ≡ listed_next requests.now caller last }
+// The entries of the first five. A struct of the two would be made once and taken apart once.
+fn first_five(requests: &[Request], caller: Identity) -> ArrayVec<ListedRequest, ENTRIES>
+    ensures { result.items ≡ map entry_of (five_of requests.now caller) }
 {
-    match last {
-        Some(request) => listed_after(requests, caller, request.number),
-        None => None,
+    let mut five = ArrayVec::new();
+    let mut last = 0;
+    while !five.is_full() {
+        let Some(request) = listed_after(requests, caller, last) else {
+            break;
+        };
+        five.push(ListedRequest::from(request));
+        last = request.number;
     }
-}
-
-fn first_five(requests: &[Request], caller: Identity) -> FirstFive
-    ensures { result ≡ five_of requests.now caller }
-{
-    let first = listed_after(requests, caller, 0);
-    let second = listed_next(requests, caller, first);
-    let third = listed_next(requests, caller, second);
-    let fourth = listed_next(requests, caller, third);
-    let fifth = listed_next(requests, caller, fourth);
-    FirstFive {
-        first,
-        second,
-        third,
-        fourth,
-        fifth,
-    }
+    five
 }
 
 // Writes the caller's live requests that the other office took, by number, into the first five
@@ -49,10 +42,12 @@ pub fn write_list(
 ) -> Result<usize, Refusal>
     ensures { (result, places.new) ≡ listed requests.now caller places.old }
 {
-    if places.len() < 5 {
+    if places.len() < ENTRIES {
         return Err(Refusal::TooLittleRoom);
     }
     let five = first_five(requests, caller);
-    five.write(places);
-    Ok(five.written())
+    let written = five.len();
+    places[..written].copy_from_slice(&five);
+    places[written..ENTRIES].fill(ListedRequest::default());
+    Ok(written)
 }

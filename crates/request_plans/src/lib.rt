@@ -3,4 +3,4 @@
 
 pub mod plans;
 
-pub use plans::{Change, Plan, plan_at};
+pub use plans::{CallerState, Change, Plan, plan_at};

@@ -5,8 +5,8 @@ ghost use Rattle.request_plans.specs.Plans.{ignored, turned, ended, let_go, when
 use link::Kind;
 use requests::{Answer, EndCause, Notice, Phase, Request};
 
-// What a message does to the requests.
-#[derive(Clone, Copy)]
+// What a message does to the requests: Options in place of these three would nest.
+#[derive(Clone, Copy, PartialEq, Eq, Debug)]
 pub enum Change {
     Keep,
     // in the place of the request that the message concerns
@@ -16,11 +16,18 @@ pub enum Change {
 }
 
 // What a message does, what is sent, and what is answered.
-#[derive(Clone, Copy)]
+#[derive(Clone, Copy, PartialEq, Eq, Debug)]
 pub struct Plan {
     pub change: Change,
     pub reply: Option<Kind>,
     pub answer: Answer,
+}
+
+// Whether the caller is busy, and until when a recall of him would stand.
+#[derive(Clone, Copy, PartialEq, Eq, Debug)]
+pub struct CallerState {
+    pub busy: bool,
+    pub recall_until: u64,
 }
 
 impl Plan {
@@ -42,7 +49,7 @@ impl Plan {
         Plan {
             change: Change::Put(request),
             reply: None,
-            answer: Answer::about(request, notice),
+            answer: Answer::about(request, Some(notice)),
         }
     }
 
@@ -53,7 +60,7 @@ impl Plan {
         Plan {
             change: Change::Put(request.at_phase(Phase::Closing)),
             reply: Some(Kind::Close),
-            answer: Answer::about(request, Notice::End(cause)),
+            answer: Answer::about(request, Some(Notice::End(cause))),
         }
     }
 
@@ -64,37 +71,36 @@ impl Plan {
         Plan {
             change: Change::Free,
             reply: None,
-            answer: Answer::about(request, Notice::Silent),
+            answer: Answer::about(request, None),
         }
     }
 }
 
 // What FREE does to a request that waits for it.
-fn when_free(request: Request, busy: bool, recall_until: u64) -> Plan
-    ensures { result ≡ when_free busy recall_until request }
+fn when_free(request: Request, caller: CallerState) -> Plan
+    ensures { result ≡ when_free caller request }
 {
-    if busy {
+    if caller.busy {
         Plan {
             change: Change::Put(request.at_phase(Phase::Parked)),
             reply: Some(Kind::Suspend),
-            answer: Answer::about(request, Notice::FreeNotification),
+            answer: Answer::about(request, Some(Notice::FreeNotification)),
         }
     } else {
-        Plan::turned(request.recalled_until(recall_until), Notice::Recall)
+        Plan::turned(request.recalled_until(caller.recall_until), Notice::Recall)
     }
 }
 
-// What a message does to the request that it concerns, by whether the caller is busy. A recall
-// would stand until the deadline.
-pub fn plan_at(request: Request, kind: Kind, busy: bool, recall_until: u64) -> Plan
-    ensures { result ≡ plan_at busy recall_until request request.phase kind }
+// What a message does to the request that it concerns, by how its caller stands.
+pub fn plan_at(request: Request, kind: Kind, caller: CallerState) -> Plan
+    ensures { result ≡ plan_at caller request request.phase kind }
 {
     match (request.phase, kind) {
         (Phase::Asked, Kind::Yes) => {
             Plan::turned(request.at_phase(Phase::Invoked), Notice::Granted)
         }
         (Phase::Asked, Kind::No(_)) => Plan::ended(request, EndCause::FarEndSaidNo),
-        (Phase::Invoked, Kind::Free) => when_free(request, busy, recall_until),
+        (Phase::Invoked, Kind::Free) => when_free(request, caller),
         (Phase::SettingUp, Kind::BusyAgain) => {
             Plan::turned(request.at_phase(Phase::Invoked), Notice::WaitingAgain)
         }

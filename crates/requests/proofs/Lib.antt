@@ -1,1 +1,1 @@
-mod Walks
+mod Minimum

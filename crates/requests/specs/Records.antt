@@ -1,58 +1,36 @@
 -- The tests on the office's records, and what becomes of them.
 use Rattle.std.specs.Prelude.{ℕ, Bool, true, false, not, ◌&&◌, ◌||◌, ◌==◌, nat_le, nat_lt}
 use Rattle.fields.specs.declared.key.Key.{Key}
-use Rattle.fields.specs.declared.values.CallIdentifier.{CallIdentifier}
-use Rattle.fields.specs.declared.values.Identifier.{Identifier}
-use Rattle.fields.specs.declared.values.Identity.{Identity}
-use Rattle.fields.specs.declared.values.Service.{Service}
 use Rattle.fields.specs.Keys.{same_key}
+use Rattle.fields.specs.Values.{CallIdentifier, Identifier, Identity, Service}
 use Rattle.marks.specs.Marks.{hold, release}
 use Rattle.requests.specs.declared.records.Phase.{Phase}
-use Rattle.requests.specs.declared.records.Phase.TheVariants.{Asked, Invoked, Recalled, Parked, SettingUp, Closing}
+use Rattle.requests.specs.declared.records.Phase.TheVariants.{Asked, Recalled, Parked, SettingUp, Closing}
 use Rattle.requests.specs.declared.records.Request.{Request}
 use Rattle.requests.specs.declared.records.RetainedCall.{RetainedCall}
 use Rattle.requests.specs.declared.records.Subscriber.{Subscriber}
 
 abbrev pub is_asked : Phase → Bool
 is_asked Asked = true
-is_asked Invoked = false
-is_asked Recalled = false
-is_asked Parked = false
-is_asked SettingUp = false
-is_asked Closing = false
+is_asked _ = false
 
 abbrev pub is_recalled : Phase → Bool
-is_recalled Asked = false
-is_recalled Invoked = false
 is_recalled Recalled = true
-is_recalled Parked = false
-is_recalled SettingUp = false
-is_recalled Closing = false
+is_recalled _ = false
 
 abbrev pub is_parked : Phase → Bool
-is_parked Asked = false
-is_parked Invoked = false
-is_parked Recalled = false
 is_parked Parked = true
-is_parked SettingUp = false
-is_parked Closing = false
+is_parked _ = false
 
 abbrev pub is_live : Phase → Bool
-is_live Asked = true
-is_live Invoked = true
-is_live Recalled = true
-is_live Parked = true
-is_live SettingUp = true
 is_live Closing = false
+is_live _ = true
 
 -- the request can be ended by its caller, or by the time
 abbrev pub can_end : Phase → Bool
-can_end Asked = true
-can_end Invoked = true
-can_end Recalled = true
-can_end Parked = true
 can_end SettingUp = false
 can_end Closing = false
+can_end _ = true
 
 abbrev pub is_subscriber : Identity → Subscriber → Bool
 is_subscriber n x = x.identity.bits == n.bits

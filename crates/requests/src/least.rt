@@ -1,34 +1,18 @@
 // The request of smallest number: nothing relies on the order of places.
-ghost use Rattle.std.specs.Prelude.{◌≡◌};
-ghost use Rattle.requests.specs.Least.{smaller, smallest_of};
+ghost use Rattle.std.specs.Prelude.{◌≡◌, Bool};
+ghost use Rattle.record.specs.Search.{Computes};
+ghost use Rattle.requests.specs.Least.{smallest_of};
 
 use crate::records::Request;
-use record::Test;
-
-// That of the smaller number.
-fn smaller(request: Request, least: Option<Request>) -> Option<Request>
-    ensures { result ≡ smaller request least }
-{
-    match least {
-        Some(other) => Some(if other.number < request.number {
-            other
-        } else {
-            request
-        }),
-        None => Some(request),
-    }
-}
 
 // The request of smallest number among those that pass.
-pub fn smallest<T: Test<Request>>(requests: &[Request], test: &T) -> Option<Request>
-    ensures { result ≡ smallest_of (T.passes test.now) requests.now }
+pub fn smallest<F: Fn(&Request) -> bool>(requests: &[Request], test: F) -> Option<Request>
+    requires { F.IsAlwaysCallable test }
+    ensures { (p : _) → Computes F.Fn test p → result ≡ smallest_of p requests.now }
 {
-    let mut least = None;
-    for i in (0..requests.len()).rev() {
-        let request = requests[i];
-        if test.test(&request) {
-            least = smaller(request, least);
-        }
-    }
-    least
+    requests
+        .iter()
+        .filter(|request| test(request))
+        .min_by_key(|request| request.number)
+        .copied()
 }

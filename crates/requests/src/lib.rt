@@ -6,5 +6,5 @@ pub mod notices;
 pub mod records;
 pub mod seeks;
 
-pub use notices::{Answer, EndCause, Notice};
+pub use notices::{Answer, EndCause, Notice, Touched};
 pub use records::{Deadlines, Phase, Request, RetainedCall, Subscriber};

@@ -1,11 +1,12 @@
 // What a call answers.
 ghost use Rattle.std.specs.Prelude.{◌≡◌};
-ghost use Rattle.requests.specs.Notices.{done, dropped, about, letter, cause};
+ghost use Rattle.requests.specs.Notices.{done, dropped, about, letter, answer_letter, cause, cause_number};
 
 use crate::records::Request;
+use fields::Identifier;
 
 // Why a request ended.
-#[derive(Clone, Copy)]
+#[derive(Clone, Copy, PartialEq, Eq, Debug)]
 pub enum EndCause {
     FarEndSaidNo,
     Completed,
@@ -15,10 +16,8 @@ pub enum EndCause {
 }
 
 // What the caller is told.
-#[derive(Clone, Copy)]
+#[derive(Clone, Copy, PartialEq, Eq, Debug)]
 pub enum Notice {
-    // nothing
-    Silent,
     Opened,
     Joined,
     Granted,
@@ -30,20 +29,40 @@ pub enum Notice {
     Dropped,
 }
 
-// The notice, and the number and the identifier of the request that was touched, 0 where none was.
-#[derive(Clone, Copy)]
-pub struct Answer {
-    pub notice: Notice,
+// The number and the identifier of the request that a call touched.
+#[derive(Clone, Copy, PartialEq, Eq, Debug)]
+pub struct Touched {
     pub number: u64,
-    pub identifier: u8,
+    pub identifier: Identifier,
 }
 
-impl Notice {
-    pub fn letter(self) -> char
-        ensures { result ≡ letter self }
-    {
-        match self {
-            Notice::Silent | Notice::Opened => '-',
+// What the caller is told, if anything, and the request that the call touched, if any.
+#[derive(Clone, Copy, PartialEq, Eq, Debug)]
+pub struct Answer {
+    pub notice: Option<Notice>,
+    pub touched: Option<Touched>,
+}
+
+impl From<EndCause> for u8 {
+    ghost from_gives = { λ cause number. number ≡ cause_number cause };
+
+    fn from(cause: EndCause) -> u8 {
+        match cause {
+            EndCause::FarEndSaidNo => 1,
+            EndCause::Completed => 2,
+            EndCause::Cancelled => 3,
+            EndCause::TimeOver => 4,
+            EndCause::SetUpFailed => 5,
+        }
+    }
+}
+
+impl From<Notice> for char {
+    ghost from_gives = { λ notice c. c ≡ letter notice };
+
+    fn from(notice: Notice) -> char {
+        match notice {
+            Notice::Opened => '-',
             Notice::Joined => 'J',
             Notice::Granted => 'G',
             Notice::Recall => 'R',
@@ -53,31 +72,27 @@ impl Notice {
             Notice::Dropped => 'X',
         }
     }
+}
 
-    // The number of the cause, 0 where there is none.
-    pub fn cause(self) -> u8
+impl Notice {
+    pub fn cause(self) -> Option<EndCause>
         ensures { result ≡ cause self }
     {
         match self {
-            Notice::End(EndCause::FarEndSaidNo) => 1,
-            Notice::End(EndCause::Completed) => 2,
-            Notice::End(EndCause::Cancelled) => 3,
-            Notice::End(EndCause::TimeOver) => 4,
-            Notice::End(EndCause::SetUpFailed) => 5,
-            _ => 0,
+            Notice::End(cause) => Some(cause),
+            _ => None,
         }
     }
 }
 
 impl Answer {
-    // Done, and no request was touched.
+    // Done, and no request was touched. A name of its own reads better than a notice handed in.
     pub fn done() -> Answer
         ensures { result ≡ done }
     {
         Answer {
-            notice: Notice::Silent,
-            number: 0,
-            identifier: 0,
+            notice: None,
+            touched: None,
         }
     }
 
@@ -85,19 +100,27 @@ impl Answer {
         ensures { result ≡ dropped }
     {
         Answer {
-            notice: Notice::Dropped,
-            number: 0,
-            identifier: 0,
+            notice: Some(Notice::Dropped),
+            touched: None,
         }
     }
 
-    pub fn about(request: Request, notice: Notice) -> Answer
+    pub fn about(request: Request, notice: Option<Notice>) -> Answer
         ensures { result ≡ about request notice }
     {
+        let touched = Touched {
+            number: request.number,
+            identifier: request.key.identifier,
+        };
         Answer {
             notice,
-            number: request.number,
-            identifier: request.key.identifier.bits,
+            touched: Some(touched),
         }
+    }
+    // The letter of what the caller is told, '-' for nothing.
+    pub fn letter(&self) -> char
+        ensures { result ≡ answer_letter self.now }
+    {
+        self.notice.map_or('-', char::from)
     }
 }

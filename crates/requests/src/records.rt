@@ -2,7 +2,7 @@
 use fields::{CallAttributes, CallIdentifier, Identifier, Identity, Key};
 use marks::Marks;
 
-#[derive(Clone, Copy)]
+#[derive(Clone, Copy, PartialEq, Eq, Debug)]
 pub struct Subscriber {
     pub identity: Identity,
     pub busy: bool,
@@ -13,7 +13,7 @@ pub struct Subscriber {
 }
 
 // A call that failed, for which its caller may yet ask completion.
-#[derive(Clone, Copy)]
+#[derive(Clone, Copy, PartialEq, Eq, Debug)]
 pub struct RetainedCall {
     pub caller: Identity,
     pub called: Identity,
@@ -26,7 +26,7 @@ pub struct RetainedCall {
 // How far a request has come. Asked of the other office; Invoked and waiting for the called
 // party; Recalled to the caller; Parked while the caller is busy; SettingUp the call; Closing
 // until the other office lets go. All but Closing are live.
-#[derive(Clone, Copy)]
+#[derive(Clone, Copy, PartialEq, Eq, Debug)]
 pub enum Phase {
     Asked,
     Invoked,
@@ -38,13 +38,13 @@ pub enum Phase {
 
 // From when a request is due: by its service in any phase but SettingUp and Closing, and by its
 // recall too while it is Recalled.
-#[derive(Clone, Copy)]
+#[derive(Clone, Copy, PartialEq, Eq, Debug)]
 pub struct Deadlines {
     pub service: u64,
     pub recall: u64,
 }
 
-#[derive(Clone, Copy)]
+#[derive(Clone, Copy, PartialEq, Eq, Debug)]
 pub struct Request {
     pub number: u64,
     pub key: Key,

@@ -1,3 +1,2 @@
 pub mod Calls
-mod Settings
 pub mod Turns

@@ -1,14 +1,14 @@
 -- What holds along any run of the office's calls.
-use Rattle.std.specs.Prelude.{◌≡◌, ℕ, ◌≤◌, cond, ◌⊎◌, List, [], ◌∷◌, ◌++◌, Ok, Err, count_by}
+use Rattle.std.specs.Prelude.{◌≡◌, ℕ, ◌≤◌, ◌⊎◌, List, [], ◌∷◌, ◌++◌, map, filter, Ok, Err, count_by, ◌==◌}
 use mathlib.Core.List.{Sublist}
 use Rattle.fields.specs.declared.key.Key.{Key}
-use Rattle.fields.specs.declared.values.Identity.{Identity}
-use Rattle.link.specs.declared.message.Message.{Message}
+use Rattle.fields.specs.Values.{Identity}
+use Rattle.link.specs.Queue.{Queue}
 use Rattle.terminating.specs.declared.making.TerminatingSettings.{TerminatingSettings}
 use Rattle.terminating.specs.declared.office.Monitor.{Monitor}
 use Rattle.terminating.specs.Hearing.{hear_step}
 use Rattle.terminating.specs.Making.{fresh}
-use Rattle.terminating.specs.Office.{Office, is_for, is_engaged}
+use Rattle.terminating.specs.Office.{Office, is_engaged}
 use Rattle.terminating.specs.Steps.{Answer, line_step, serve_step, outcome_step}
 
 -- a refused call leaves all as found
@@ -16,19 +16,19 @@ abbrev pub AsFound : {World : Type 0} → Answer → World → World → Type 0
 AsFound (Ok x) before after = Unit {0}
 AsFound (Err e) before after = after ≡ before
 
--- a call with its numbers, and the links as it finds them: the room of the link back, and what waits
+-- a call with its numbers, and the links as it finds them
 pub data Call : Type 0 where
   line_call : (line mark : ℕ) → Call
-  serve_call : (room : ℕ) (back : List Message) (line : ℕ) → Call
-  outcome_call : (room : ℕ) (back : List Message) (line number : ℕ) → Call
-  hear_call : (room : ℕ) (out back : List Message) → Call
+  serve_call : (back : Queue) (line : ℕ) → Call
+  outcome_call : (back : Queue) (line number : ℕ) → Call
+  hear_call : (out back : Queue) → Call
 
 -- the office that a call leaves
 abbrev pub leaves : Office → Call → Office
 leaves s (line_call line mark) = (line_step s line mark).1
-leaves s (serve_call room back line) = (serve_step room s back line).1
-leaves s (outcome_call room back line number) = (outcome_step room s back line number).1
-leaves s (hear_call room out back) = (hear_step room s out back).1
+leaves s (serve_call back line) = (serve_step s back line).1
+leaves s (outcome_call back line number) = (outcome_step s back line number).1
+leaves s (hear_call out back) = (hear_step s out back).1
 
 -- the office after a run of calls, the newest first; between two calls the links may change in any way
 abbrev pub run : Office → List Call → Office
@@ -37,8 +37,7 @@ run s (x ∷ xs) = leaves (run s xs) x
 
 -- a called party's queue: the keys of its monitors, in the order in which they came
 abbrev pub queue : Identity → List Monitor → List Key
-queue n [] = []
-queue n (m ∷ ms) = cond (is_for n m) (m.key ∷ queue n ms) (queue n ms)
+queue n ms = filter (λ k. k.called.bits == n.bits) (map (λ m. m.key) ms)
 
 -- a queue loses members, those that stay keeping their order, or gains one at its end
 abbrev pub Moved : List Key → List Key → Type 0

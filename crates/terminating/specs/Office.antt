@@ -1,22 +1,19 @@
 -- The office's records as lists, and the tests on them.
-use Rattle.std.specs.Prelude.{ℕ, Bool, true, false, ◌&&◌, List, vec_items, ◌==◌}
+use Rattle.std.specs.Prelude.{ℕ, Bool, true, false, ◌&&◌, List, ◌==◌}
 use Rattle.fields.specs.declared.key.Key.{Key}
-use Rattle.fields.specs.declared.values.Identity.{Identity}
+use Rattle.fields.specs.Values.{Identity}
 use Rattle.fields.specs.Keys.{same_key}
+use Rattle.record.specs.Search.{put_first}
 use Rattle.terminating.specs.declared.office.Line.{Line}
 use Rattle.terminating.specs.declared.office.Monitor.{Monitor}
 use Rattle.terminating.specs.declared.office.Stage.{Stage}
-use Rattle.terminating.specs.declared.office.Stage.TheVariants.{Waiting, Offered, Suspended, Ringing}
-use Rattle.terminating.specs.declared.office.Terminating.{Terminating}
+use Rattle.terminating.specs.declared.office.Stage.TheVariants.{Waiting, Offered, Ringing}
 
 -- what the office keeps: its lines, its monitors in the order in which they came, and how many may stand
 pub record Office : Type 0 where
   pub lines : List Line
   pub monitors : List Monitor
   pub places : ℕ
-
-abbrev pub view : Terminating → Office
-view t = record { lines = vec_items t.lines; monitors = vec_items t.monitors; places = t.places }
 
 abbrev pub with_lines : Office → List Line → Office
 with_lines s ls = record { lines = ls; monitors = s.monitors; places = s.places }
@@ -26,22 +23,17 @@ with_monitors s ms = record { lines = s.lines; monitors = ms; places = s.places 
 
 abbrev pub waits : Stage → Bool
 waits Waiting = true
-waits Offered = false
-waits Suspended = false
-waits Ringing = false
+waits _ = false
 
 -- the line is held for the monitor
 abbrev pub engaged : Stage → Bool
-engaged Waiting = false
 engaged Offered = true
-engaged Suspended = false
 engaged Ringing = true
+engaged _ = false
 
 abbrev pub rings : Stage → Bool
-rings Waiting = false
-rings Offered = false
-rings Suspended = false
 rings Ringing = true
+rings _ = false
 
 abbrev pub is_line : Identity → Line → Bool
 is_line n l = l.identity.bits == n.bits
@@ -67,3 +59,7 @@ at_stage at m = record { key = m.key; call = m.call; stage = at }
 
 abbrev pub marked : Bool → Line → Line
 marked busy l = record { identity = l.identity; service = l.service; busy = busy }
+
+-- the line stands in the place of that of its identity
+abbrev pub with_line : Office → Line → Office
+with_line s l = with_lines s (put_first (is_line l.identity) l s.lines)

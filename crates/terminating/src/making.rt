@@ -1,17 +1,16 @@
 // The office made from its settings.
-ghost use Rattle.std.specs.Prelude.{◌≡◌, IfOk, MatchResult, ◌==◌};
+ghost use Rattle.std.specs.Prelude.{◌≡◌, IfOk, MatchResult};
 ghost use Rattle.fields.specs.declared.refusal.Refusal.TheVariants.{NoMemory};
 ghost use Rattle.terminating.specs.Laws.{Begun};
-ghost use Rattle.terminating.specs.Office.{view};
 ghost use Rattle.terminating.specs.Making.{line_set, sole_line, lines_allowed, few_allowed, allowed, lines_set, Made};
 
 use crate::office::{Line, Terminating};
 use fields::{Identity, Refusal, Service};
-use record::{Test, first};
+use record::first;
 use std::alloc::Global;
 
 // A line as plain numbers.
-#[derive(Clone, Copy)]
+#[derive(Clone, Copy, PartialEq, Eq, Debug)]
 pub struct LineSetting {
     pub identity: u64,
     pub service: u64,
@@ -19,43 +18,34 @@ pub struct LineSetting {
 
 // What an office is made from: 1 to 256 lines of distinct identities, and 1 to 256 places for
 // monitors.
-#[derive(Drop)]
+#[derive(PartialEq, Eq, Debug, Drop)]
 pub struct TerminatingSettings {
     pub lines: Vec<LineSetting>,
     pub places: u64,
 }
 
-// A line of this identity.
-#[derive(Clone, Copy)]
-pub(crate) struct OfIdentity(pub(crate) u64);
+// The line, which is free at the start.
+impl TryFrom<LineSetting> for Line {
+    type Error = Refusal;
 
-impl Test<LineSetting> for OfIdentity {
-    ghost passes = { λ t x. (x.identity == t.0) };
+    ghost try_from_gives = { λ setting r. r ≡ line_set setting };
 
-    fn test(&self, item: &LineSetting) -> bool {
-        item.identity == self.0
+    fn try_from(setting: LineSetting) -> Result<Line, Refusal> {
+        Ok(Line {
+            identity: Identity::try_from(setting.identity)?,
+            service: Service::try_from(setting.service)?,
+            busy: false,
+        })
     }
 }
 
 impl LineSetting {
-    // The line, which is free at the start.
-    fn line(self) -> Result<Line, Refusal>
-        ensures { result ≡ line_set self }
-    {
-        let identity = Identity::new(self.identity)?;
-        let service = Service::new(self.service)?;
-        Ok(Line {
-            identity,
-            service,
-            busy: false,
-        })
-    }
-
     // Whether the line can be had, and none of the others has its identity.
     fn is_sole(self, others: &[LineSetting]) -> bool
         ensures { result ≡ sole_line self others.now }
     {
-        self.line().is_ok() && first(others, &OfIdentity(self.identity)).is_none()
+        Line::try_from(self).is_ok()
+            && first(others, |other| other.identity == self.identity).is_none()
     }
 }
 
@@ -63,10 +53,12 @@ impl LineSetting {
 fn lines_allowed(lines: &[LineSetting]) -> bool
     ensures { result ≡ lines_allowed lines.now }
 {
-    for (i, line) in lines.iter().enumerate() {
-        if !line.is_sole(&lines[i + 1..]) {
+    let mut rest = lines;
+    while let Some((line, others)) = rest.split_first() {
+        if !line.is_sole(others) {
             return false;
         }
+        rest = others;
     }
     true
 }
@@ -74,22 +66,18 @@ fn lines_allowed(lines: &[LineSetting]) -> bool
 fn few_allowed(n: u64) -> bool
     ensures { result ≡ few_allowed n }
 {
-    1 <= n && n <= 256
+    (1..=256).contains(&n)
 }
 
 // The lines of the settings.
 fn lines_set(heap: Global, settings: &[LineSetting]) -> Result<Vec<Line>, Refusal>
     ensures { MatchResult result (λ v. v.items ≡ lines_set settings.now) (λ e. e ≡ NoMemory) }
 {
-    let Ok(mut lines) = Vec::with_capacity(heap, settings.len()) else {
-        return Err(Refusal::NoMemory);
-    };
-    for setting in settings {
-        if let Ok(line) = setting.line() {
-            lines.push_reserved(line);
-        }
-    }
-    Ok(lines)
+    settings
+        .iter()
+        .filter_map(|setting| Line::try_from(*setting).ok())
+        .collect(heap)
+        .map_err(|_| Refusal::NoMemory)
 }
 
 impl TerminatingSettings {
@@ -103,29 +91,21 @@ impl TerminatingSettings {
 }
 
 impl Terminating {
-    fn make(heap: Global, settings: &TerminatingSettings) -> Result<Terminating, Refusal>
-        ensures { Made settings.now result }
+    // An office whose lines are free and for which no monitor stands. All its memory is had here.
+    pub fn new(heap: Global, settings: &TerminatingSettings) -> Result<Terminating, Refusal>
+        ensures made { Made settings.now result }
+        ensures law { IfOk result (λ t. Begun settings.now t) }
     {
         if !settings.are_allowed() {
             return Err(Refusal::SettingNotAllowed);
         }
         let places = settings.places as usize;
         let lines = lines_set(heap, &settings.lines)?;
-        let Ok(monitors) = Vec::with_capacity(heap, places) else {
-            return Err(Refusal::NoMemory);
-        };
+        let monitors = Vec::with_capacity(heap, places).map_err(|_| Refusal::NoMemory)?;
         Ok(Terminating {
             lines,
             monitors,
             places,
         })
-    }
-
-    // An office whose lines are free and for which no monitor stands. All its memory is had here.
-    pub fn new(heap: Global, settings: &TerminatingSettings) -> Result<Terminating, Refusal>
-        ensures made { Made settings.now result }
-        ensures law { IfOk result (λ t. Begun settings.now (view t)) }
-    {
-        Terminating::make(heap, settings)
     }
 }

@@ -1,9 +1,8 @@
 // What the terminating office keeps.
-ghost use Rattle.std.specs.Prelude.{◌≤◌, vec_len, vec_capacity};
-
 use fields::{CallAttributes, Identity, Key, Service};
+use std::marker::Model;
 
-#[derive(Clone, Copy)]
+#[derive(Clone, Copy, PartialEq, Eq, Debug)]
 pub struct Line {
     pub identity: Identity,
     pub service: Service,
@@ -12,7 +11,7 @@ pub struct Line {
 
 // How far a monitor has come. Waiting for the line; Offered to the caller; Suspended while the
 // caller is busy; Ringing at the line.
-#[derive(Clone, Copy)]
+#[derive(Clone, Copy, PartialEq, Eq, Debug)]
 pub enum Stage {
     Waiting,
     Offered,
@@ -21,7 +20,7 @@ pub enum Stage {
 }
 
 // A caller's place in the queue of the called party.
-#[derive(Clone, Copy)]
+#[derive(Clone, Copy, PartialEq, Eq, Debug)]
 pub struct Monitor {
     pub key: Key,
     pub call: CallAttributes,
@@ -29,12 +28,21 @@ pub struct Monitor {
 }
 
 // The monitors stand in the order in which they came. Their memory was reserved when the office
-// was made.
-#[derive(Drop)]
+// was made; `places` of them may stand, since the memory that was had may hold more.
+#[derive(Debug, Drop)]
 pub struct Terminating {
     pub(crate) lines: Vec<Line>,
     pub(crate) monitors: Vec<Monitor>,
     pub(crate) places: usize,
-    ghost held: { vec_len monitors ≤ places },
-    ghost reserved: { places ≤ vec_capacity monitors },
+}
+
+impl Model for Terminating {
+    ghost use Rattle.std.specs.Prelude.{◌≤◌, vec_len, vec_capacity};
+    ghost use Rattle.terminating.specs.Office.{Office};
+
+    ghost Value = { Office };
+
+    ghost view = { λ t. record { lines = t.lines.items; monitors = t.monitors.items; places = t.places } };
+
+    ghost invariant = { λ t. (vec_len t.monitors ≤ t.places) × (t.places ≤ vec_capacity t.monitors) };
 }

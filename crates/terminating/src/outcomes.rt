@@ -1,17 +1,17 @@
-// The outcome of a call that rang at a line.
-ghost use Rattle.std.specs.Prelude.{◌≡◌, List};
-ghost use Rattle.link.specs.declared.message.Message.{Message as Sent};
+// The outcome of a call that rang at a line: a plain number, so that every number is answered.
+ghost use Rattle.std.specs.Prelude.{◌≡◌};
 ghost use Rattle.terminating.specs.Laws.{AsFound, Lawful, outcome_call};
-ghost use Rattle.terminating.specs.Office.{Office, view};
-ghost use Rattle.terminating.specs.Steps.{outcome_of, told_as, ringing_at, ending_of, marked_busy, ended, outcome_step};
+ghost use Rattle.link.specs.Links.{queue_of};
+ghost use Rattle.link.specs.Queue.{Queue};
+ghost use Rattle.terminating.specs.Office.{Office};
+ghost use Rattle.terminating.specs.Steps.{outcome_of, told_as, ending_of, marked_busy, ended, outcome_step};
 
 use crate::office::{Line, Monitor, Stage, Terminating};
-use crate::seeks::{OfLine, Ringing};
 use fields::{Identity, Refusal};
 use link::{Kind, Link, Message};
 use record::{erase_first, first, put_first};
 
-#[derive(Clone, Copy)]
+#[derive(Clone, Copy, PartialEq, Eq, Debug)]
 pub enum Outcome {
     // the line took the call
     Connected,
@@ -22,17 +22,19 @@ pub enum Outcome {
 }
 
 // A monitor that rang at the line, and how that went.
-#[derive(Clone, Copy)]
+#[derive(Clone, Copy, PartialEq, Eq, Debug)]
 pub struct Ending {
     pub line: Line,
     pub monitor: Monitor,
     pub outcome: Outcome,
 }
 
-impl Outcome {
-    fn new(number: u64) -> Result<Outcome, Refusal>
-        ensures { result ≡ outcome_of number }
-    {
+impl TryFrom<u64> for Outcome {
+    type Error = Refusal;
+
+    ghost try_from_gives = { λ number r. r ≡ outcome_of number };
+
+    fn try_from(number: u64) -> Result<Outcome, Refusal> {
         match number {
             1 => Ok(Outcome::Connected),
             2 => Ok(Outcome::Busy),
@@ -40,12 +42,14 @@ impl Outcome {
             _ => Err(Refusal::OutsideField),
         }
     }
+}
 
-    // The message that tells of it.
-    fn told_as(self) -> Kind
-        ensures { result ≡ told_as self }
-    {
-        match self {
+// The message that tells of it.
+impl From<Outcome> for Kind {
+    ghost from_gives = { λ outcome kind. kind ≡ told_as outcome };
+
+    fn from(outcome: Outcome) -> Kind {
+        match outcome {
             Outcome::Connected => Kind::Connected,
             Outcome::Busy => Kind::BusyAgain,
             Outcome::Failed => Kind::Failed,
@@ -54,19 +58,14 @@ impl Outcome {
 }
 
 impl Terminating {
-    fn ringing_at(&self, line: Line) -> Result<Monitor, Refusal>
-        ensures { result ≡ ringing_at (view self.now) line }
-    {
-        first(&self.monitors, &Ringing(line.identity)).ok_or(Refusal::NothingThere)
-    }
-
     fn ending(&self, line: u64, number: u64) -> Result<Ending, Refusal>
-        ensures { result ≡ ending_of (view self.now) line number }
+        ensures { result ≡ ending_of self.now line number }
     {
-        let identity = Identity::new(line)?;
-        let outcome = Outcome::new(number)?;
+        let identity = Identity::try_from(line)?;
+        let outcome = Outcome::try_from(number)?;
         let line = self.known_line(identity)?;
-        let monitor = self.ringing_at(line)?;
+        let ringing = first(&self.monitors, |monitor| monitor.rings_at(line.identity));
+        let monitor = ringing.ok_or(Refusal::NothingThere)?;
         Ok(Ending {
             line,
             monitor,
@@ -75,51 +74,45 @@ impl Terminating {
     }
 
     fn mark_busy(&mut self, line: Line)
-        ensures { view self.new ≡ marked_busy (view self.old) line }
+        ensures { self.new ≡ marked_busy self.old line }
     {
-        put_first(&mut self.lines, &OfLine(line.identity), line.marked(true));
+        self.put_line(line.marked(true));
     }
 
-    // A monitor that goes back to waiting keeps its place.
+    // A monitor that goes back to waiting keeps its place. What each outcome does stands beside it,
+    // since closures would each have to borrow the office.
     fn end(&mut self, ending: Ending)
-        ensures { view self.new ≡ ended (view self.old) ending.line ending.monitor ending.outcome }
+        ensures { self.new ≡ ended self.old ending.line ending.monitor ending.outcome }
     {
-        let ringing = Ringing(ending.line.identity);
+        let ringing = |monitor: &Monitor| monitor.rings_at(ending.line.identity);
         match ending.outcome {
             Outcome::Connected => {
-                erase_first(&mut self.monitors, &ringing);
+                erase_first(&mut self.monitors, ringing);
                 self.mark_busy(ending.line);
             }
             Outcome::Busy => {
                 let waiting = ending.monitor.at_stage(Stage::Waiting);
-                put_first(&mut self.monitors, &ringing, waiting);
+                put_first(&mut self.monitors, ringing, waiting);
                 self.mark_busy(ending.line);
             }
-            Outcome::Failed => erase_first(&mut self.monitors, &ringing),
+            Outcome::Failed => erase_first(&mut self.monitors, ringing),
         }
-    }
-
-    fn settle<B: Link>(&mut self, line: u64, number: u64, back: &mut B) -> Result<(), Refusal>
-        ensures step { (result, view self.new, B.Link.waiting back.new) ≡ outcome_step (B.Link.capacity back.old) (view self.old) (B.Link.waiting back.old) line number }
-        ensures room { B.Link.capacity back.new ≡ B.Link.capacity back.old }
-    {
-        let ending = self.ending(line, number)?;
-        back.send(Message {
-            kind: ending.outcome.told_as(),
-            key: ending.monitor.key,
-        })?;
-        self.end(ending);
-        Ok(())
     }
 
     // Takes the outcome of the call that rings at the line, and sends word of it: connected (1),
     // busy (2) or failed (3). The first two mark the line busy.
+    #[tactic(auto, using(crate::proofs::Calls::lawful))]
     pub fn outcome<B: Link>(&mut self, line: u64, number: u64, back: &mut B) -> Result<(), Refusal>
-        ensures step { (result, view self.new, B.Link.waiting back.new) ≡ outcome_step (B.Link.capacity back.old) (view self.old) (B.Link.waiting back.old) line number }
-        ensures room { B.Link.capacity back.new ≡ B.Link.capacity back.old }
-        ensures as_found { AsFound {World = Office × List Sent} result (view self.old, B.Link.waiting back.old) (view self.new, B.Link.waiting back.new) }
-        ensures law { Lawful (view self.old) (outcome_call (B.Link.capacity back.old) (B.Link.waiting back.old) line number) (view self.new) }
+        ensures step { (result, self.new, queue_of B.Link back.new) ≡ outcome_step self.old (queue_of B.Link back.old) line number }
+        ensures as_found { AsFound {World = Office × Queue} result (self.old, queue_of B.Link back.old) (self.new, queue_of B.Link back.new) }
+        ensures law { Lawful self.old (outcome_call (queue_of B.Link back.old) line number) self.new }
     {
-        self.settle(line, number, back)
+        let ending = self.ending(line, number)?;
+        back.send(Message {
+            kind: Kind::from(ending.outcome),
+            key: ending.monitor.key,
+        })?;
+        self.end(ending);
+        Ok(())
     }
 }

@@ -1,17 +1,15 @@
 // What the office does with a message: decided before anything is changed.
 ghost use Rattle.std.specs.Prelude.{◌≡◌};
 ghost use Rattle.terminating.specs.declared.office.Stage.TheVariants.{Offered};
-ghost use Rattle.terminating.specs.Office.{view};
-ghost use Rattle.terminating.specs.Hearing.{dropped, let_go, turned, no_cause_at, no_cause, admitted, plan_new, is_busy, set_up, plan_at, plan_of, applied};
+ghost use Rattle.terminating.specs.Hearing.{dropped, let_go, turned, admission_at, admission, admitted, plan_new, is_busy, set_up, plan_at, plan_of, applied};
 
 use crate::office::{Line, Monitor, Stage, Terminating};
-use crate::seeks::{OfKey, OfLine};
 use fields::{CallAttributes, Identity, Key};
 use link::{Kind, Message, NoCause};
-use record::{Every, at_limit, erase_first, first, put_first};
+use record::{at_limit, erase_first, first, put_first};
 
-// What a message does to the monitors.
-#[derive(Clone, Copy)]
+// What a message does to the monitors, as a value, since the reply goes out before it is done.
+#[derive(Clone, Copy, PartialEq, Eq, Debug)]
 pub enum Change {
     Keep,
     Store(Monitor),
@@ -21,30 +19,10 @@ pub enum Change {
 }
 
 // What a message does, and what is sent back.
-#[derive(Clone, Copy)]
+#[derive(Clone, Copy, PartialEq, Eq, Debug)]
 pub struct Plan {
     pub change: Change,
     pub reply: Option<Kind>,
-}
-
-// NO with its cause, or the monitor is stored and YES.
-fn admitted(key: Key, call: CallAttributes, cause: Option<NoCause>) -> Plan
-    ensures { result ≡ admitted key call cause }
-{
-    match cause {
-        Some(cause) => Plan {
-            change: Change::Keep,
-            reply: Some(Kind::No(cause)),
-        },
-        None => Plan {
-            change: Change::Store(Monitor {
-                key,
-                call,
-                stage: Stage::Waiting,
-            }),
-            reply: Some(Kind::Yes),
-        },
-    }
 }
 
 impl Plan {
@@ -80,40 +58,55 @@ impl Plan {
 }
 
 impl Terminating {
-    // Why a MONITOR of this call for the line is answered NO, if it is.
-    fn no_cause_at(&self, line: Line, call: CallAttributes) -> Option<NoCause>
-        ensures { result ≡ no_cause_at (view self.now) line call }
+    // Whether a MONITOR of this call for the line may stand, or why it is answered NO.
+    fn admission_at(&self, line: Line, call: CallAttributes) -> Result<(), NoCause>
+        ensures { result ≡ admission_at self.now line call }
     {
-        if !line.service.same(call.service) {
-            return Some(NoCause::OtherService);
+        if line.service != call.service {
+            return Err(NoCause::OtherService);
         }
-        if at_limit(&self.monitors, line.identity, &Every) {
-            return Some(NoCause::QueueFull);
+        if at_limit(&self.monitors, line.identity, |_| true) {
+            return Err(NoCause::QueueFull);
         }
         if self.monitors.len() >= self.places {
-            return Some(NoCause::TableFull);
+            return Err(NoCause::TableFull);
         }
-        None
+        Ok(())
     }
 
-    fn no_cause(&self, called: Identity, call: CallAttributes) -> Option<NoCause>
-        ensures { result ≡ no_cause (view self.now) called call }
+    fn admission(&self, called: Identity, call: CallAttributes) -> Result<(), NoCause>
+        ensures { result ≡ admission self.now called call }
     {
-        match first(&self.lines, &OfLine(called)) {
-            Some(line) => self.no_cause_at(line, call),
-            None => Some(NoCause::NoSuchLine),
+        let line = first(&self.lines, |line| line.identity == called);
+        self.admission_at(line.ok_or(NoCause::NoSuchLine)?, call)
+    }
+
+    // NO with its cause, or the monitor is stored and YES.
+    fn plan_monitor(&self, key: Key, call: CallAttributes) -> Plan
+        ensures { result ≡ admitted key call (admission self.now key.called call) }
+    {
+        match self.admission(key.called, call) {
+            Ok(()) => Plan {
+                change: Change::Store(Monitor {
+                    key,
+                    call,
+                    stage: Stage::Waiting,
+                }),
+                reply: Some(Kind::Yes),
+            },
+            Err(cause) => Plan {
+                change: Change::Keep,
+                reply: Some(Kind::No(cause)),
+            },
         }
     }
 
     // What a message does of whose key no monitor stands.
     fn plan_new(&self, message: Message) -> Plan
-        ensures { result ≡ plan_new (view self.now) message.key message.kind }
+        ensures { result ≡ plan_new self.now message.key message.kind }
     {
         match message.kind {
-            Kind::Monitor(call) => {
-                let cause = self.no_cause(message.key.called, call);
-                admitted(message.key, call, cause)
-            }
+            Kind::Monitor(call) => self.plan_monitor(message.key, call),
             Kind::Close => Plan::let_go(Change::Keep),
             _ => Plan::dropped(),
         }
@@ -121,17 +114,14 @@ impl Terminating {
 
     // Whether the line is busy; one that is not here is.
     fn is_busy(&self, line: Identity) -> bool
-        ensures { result ≡ is_busy (view self.now) line }
+        ensures { result ≡ is_busy self.now line }
     {
-        match first(&self.lines, &OfLine(line)) {
-            Some(found) => found.busy,
-            None => true,
-        }
+        first(&self.lines, |found| found.identity == line).is_none_or(|found| found.busy)
     }
 
     // What SETUP does to a monitor that is offered the line.
     fn set_up(&self, monitor: Monitor) -> Plan
-        ensures { result ≡ set_up monitor (is_busy (view self.now) monitor.key.called) Offered }
+        ensures { result ≡ set_up monitor (is_busy self.now monitor.key.called) Offered }
     {
         if self.is_busy(monitor.key.called) {
             Plan {
@@ -145,7 +135,7 @@ impl Terminating {
 
     // What a message does to the monitor that it concerns.
     fn plan_at(&self, monitor: Monitor, kind: Kind) -> Plan
-        ensures { result ≡ plan_at (view self.now) monitor monitor.stage kind }
+        ensures { result ≡ plan_at self.now monitor monitor.stage kind }
     {
         match (monitor.stage, kind) {
             (Stage::Offered, Kind::Suspend) => Plan::turned(monitor, Stage::Suspended),
@@ -157,17 +147,18 @@ impl Terminating {
     }
 
     pub(crate) fn plan(&self, message: Message) -> Plan
-        ensures { result ≡ plan_of (view self.now) message }
+        ensures { result ≡ plan_of self.now message }
     {
-        match first(&self.monitors, &OfKey(message.key)) {
+        match first(&self.monitors, |monitor| monitor.key == message.key) {
             Some(monitor) => self.plan_at(monitor, message.kind),
             None => self.plan_new(message),
         }
     }
 
     pub(crate) fn apply(&mut self, key: Key, change: Change)
-        ensures { view self.new ≡ applied (view self.old) key change }
+        ensures { self.new ≡ applied self.old key change }
     {
+        let has_key = |monitor: &Monitor| monitor.key == key;
         match change {
             Change::Keep => {}
             Change::Store(monitor) => {
@@ -175,8 +166,8 @@ impl Terminating {
                     self.monitors.push_reserved(monitor);
                 }
             }
-            Change::Put(monitor) => put_first(&mut self.monitors, &OfKey(key), monitor),
-            Change::Erase => erase_first(&mut self.monitors, &OfKey(key)),
+            Change::Put(monitor) => put_first(&mut self.monitors, has_key, monitor),
+            Change::Erase => erase_first(&mut self.monitors, has_key),
         }
     }
 }

@@ -3,9 +3,12 @@
 
 #[cfg(test)]
 mod tests {
+    use fields::Refusal::{
+        LinkFull, NothingThere, OutsideField, PartyBusy, SettingNotAllowed, UnknownParty,
+    };
     use fields::{CallAttributes, Identifier, Identity, Key, Priority, Refusal, Service};
-    use frame::Trunk;
-    use link::{Kind, Link, Message, NoCause, Shelf};
+    use frame::Frames;
+    use link::{Kind, Link, Message, NoCause, Places, Ring};
     use std::alloc::Global;
     use std::process::Abort;
     use std::test::Fail;
@@ -30,46 +33,35 @@ mod tests {
 
     fn monitor(service: u64) -> Result<Kind, Fail> {
         Ok(Kind::Monitor(CallAttributes {
-            priority: Priority::new(3)?,
-            service: Service::new(service)?,
+            priority: Priority::try_from(3)?,
+            service: Service::try_from(service)?,
         }))
     }
 
     // A message of the caller's first request to the called party.
     fn message(kind: Kind, caller: u64, called: u64) -> Result<Message, Fail> {
         let key = Key {
-            identifier: Identifier::new(1)?,
-            caller: Identity::new(caller)?,
-            called: Identity::new(called)?,
+            identifier: Identifier::try_from(1)?,
+            caller: Identity::try_from(caller)?,
+            called: Identity::try_from(called)?,
         };
         Ok(Message { kind, key })
     }
 
-    // The refusal's number, or 0.
-    fn number(answer: Result<(), Refusal>) -> u8 {
-        match answer {
-            Ok(()) => 0,
-            Err(refusal) => refusal.number(),
-        }
-    }
-
     // The kind of the oldest message, which is taken.
     fn taken<L: Link>(link: &mut L) -> Option<Kind> {
-        match link.take() {
-            Ok(message) => Some(message.kind),
-            Err(_) => None,
-        }
+        link.take().ok().map(|message| message.kind)
     }
 
     // Both links, and the office between them.
-    #[derive(Drop)]
+    #[derive(Debug, Drop)]
     struct Yard<L: Link> {
         office: Terminating,
         out: L,
         back: L,
     }
 
-    #[derive(Clone, Copy)]
+    #[derive(Clone, Copy, PartialEq, Eq, Debug)]
     enum Act {
         Line(u64, u64),
         Serve(u64),
@@ -79,12 +71,18 @@ mod tests {
         Hear,
     }
 
-    // What is done, the number that it answers, and the message that then comes back.
-    #[derive(Clone, Copy)]
-    struct Row(Act, u8, Option<Kind>);
+    // What is done, what it answers, and the message that then comes back.
+    #[derive(Clone, Copy, PartialEq, Eq, Debug)]
+    struct Row(Act, Result<(), Refusal>, Option<Kind>);
 
-    fn done<L: Link>(yard: &mut Yard<L>, act: Act) -> Result<u8, Fail> {
-        let answer = match act {
+    // The act answers so.
+    fn does<L: Link>(
+        rt: &impl Abort,
+        yard: &mut Yard<L>,
+        act: Act,
+        answer: Result<(), Refusal>,
+    ) -> Result<(), Fail> {
+        let found = match act {
             Act::Line(line, mark) => yard.office.line(line, mark),
             Act::Serve(line) => yard.office.serve(line, &mut yard.back),
             Act::Outcome(line, outcome) => yard.office.outcome(line, outcome, &mut yard.back),
@@ -94,12 +92,13 @@ mod tests {
             }
             Act::Hear => yard.office.hear(&mut yard.out, &mut yard.back),
         };
-        Ok(number(answer))
+        assert_eq!(rt; found, answer);
+        Ok(())
     }
 
     fn run<L: Link>(rt: &impl Abort, yard: &mut Yard<L>, rows: &[Row]) -> Result<(), Fail> {
-        for Row(deed, number, reply) in rows {
-            assert_eq!(rt; done(yard, *deed)?, *number);
+        for Row(act, answer, reply) in rows {
+            does(rt, yard, *act, *answer)?;
             assert_eq!(rt; taken(&mut yard.back), *reply);
         }
         Ok(())
@@ -108,14 +107,14 @@ mod tests {
     // Numbers outside their fields, lines that are not here, and nothing to hear.
     fn refuses<L: Link>(rt: &impl Abort, yard: &mut Yard<L>) -> Result<(), Fail> {
         let rows = [
-            Row(Act::Line(4, 2), 1, None),
-            Row(Act::Line(4, 1), 2, None),
-            Row(Act::Serve(281474976710656), 1, None),
-            Row(Act::Serve(4), 2, None),
-            Row(Act::Outcome(4, 4), 1, None),
-            Row(Act::Outcome(4, 3), 2, None),
-            Row(Act::Outcome(2, 3), 9, None),
-            Row(Act::Hear, 9, None),
+            Row(Act::Line(4, 2), Err(OutsideField), None),
+            Row(Act::Line(4, 1), Err(UnknownParty), None),
+            Row(Act::Serve(281474976710656), Err(OutsideField), None),
+            Row(Act::Serve(4), Err(UnknownParty), None),
+            Row(Act::Outcome(4, 4), Err(OutsideField), None),
+            Row(Act::Outcome(4, 3), Err(UnknownParty), None),
+            Row(Act::Outcome(2, 3), Err(NothingThere), None),
+            Row(Act::Hear, Err(NothingThere), None),
         ];
         run(rt, yard, &rows)
     }
@@ -124,25 +123,33 @@ mod tests {
     fn admits<L: Link>(rt: &impl Abort, yard: &mut Yard<L>) -> Result<(), Fail> {
         let (five, six) = (monitor(5)?, monitor(6)?);
         let rows = [
-            Row(Act::Say(five, 10, 2), 0, Some(Kind::Yes)),
-            Row(Act::Say(five, 11, 2), 0, Some(Kind::Yes)),
-            Row(Act::Say(five, 11, 2), 0, None),
-            Row(Act::Say(five, 12, 2), 0, Some(Kind::Yes)),
-            Row(Act::Say(five, 13, 2), 0, Some(Kind::Yes)),
-            Row(Act::Say(five, 14, 2), 0, Some(Kind::Yes)),
+            Row(Act::Say(five, 10, 2), Ok(()), Some(Kind::Yes)),
+            Row(Act::Say(five, 11, 2), Ok(()), Some(Kind::Yes)),
+            Row(Act::Say(five, 11, 2), Ok(()), None),
+            Row(Act::Say(five, 12, 2), Ok(()), Some(Kind::Yes)),
+            Row(Act::Say(five, 13, 2), Ok(()), Some(Kind::Yes)),
+            Row(Act::Say(five, 14, 2), Ok(()), Some(Kind::Yes)),
             Row(
                 Act::Say(five, 15, 4),
-                0,
+                Ok(()),
                 Some(Kind::No(NoCause::NoSuchLine)),
             ),
             Row(
                 Act::Say(five, 15, 3),
-                0,
+                Ok(()),
                 Some(Kind::No(NoCause::OtherService)),
             ),
-            Row(Act::Say(five, 15, 2), 0, Some(Kind::No(NoCause::QueueFull))),
-            Row(Act::Say(six, 15, 3), 0, Some(Kind::Yes)),
-            Row(Act::Say(six, 16, 3), 0, Some(Kind::No(NoCause::TableFull))),
+            Row(
+                Act::Say(five, 15, 2),
+                Ok(()),
+                Some(Kind::No(NoCause::QueueFull)),
+            ),
+            Row(Act::Say(six, 15, 3), Ok(()), Some(Kind::Yes)),
+            Row(
+                Act::Say(six, 16, 3),
+                Ok(()),
+                Some(Kind::No(NoCause::TableFull)),
+            ),
         ];
         run(rt, yard, &rows)
     }
@@ -150,16 +157,16 @@ mod tests {
     // The earliest is offered the line, is suspended and resumed, and keeps its place.
     fn offers<L: Link>(rt: &impl Abort, yard: &mut Yard<L>) -> Result<(), Fail> {
         let rows = [
-            Row(Act::Serve(2), 0, Some(Kind::Free)),
-            Row(Act::Serve(2), 9, None),
-            Row(Act::Say(Kind::Suspend, 10, 2), 0, None),
-            Row(Act::Say(Kind::Setup, 10, 2), 0, None),
-            Row(Act::Say(Kind::Resume, 10, 2), 0, None),
-            Row(Act::Serve(2), 0, Some(Kind::Free)),
-            Row(Act::Line(2, 1), 0, None),
-            Row(Act::Say(Kind::Setup, 11, 2), 0, None),
-            Row(Act::Say(Kind::Setup, 10, 2), 0, Some(Kind::BusyAgain)),
-            Row(Act::Serve(2), 10, None),
+            Row(Act::Serve(2), Ok(()), Some(Kind::Free)),
+            Row(Act::Serve(2), Err(NothingThere), None),
+            Row(Act::Say(Kind::Suspend, 10, 2), Ok(()), None),
+            Row(Act::Say(Kind::Setup, 10, 2), Ok(()), None),
+            Row(Act::Say(Kind::Resume, 10, 2), Ok(()), None),
+            Row(Act::Serve(2), Ok(()), Some(Kind::Free)),
+            Row(Act::Line(2, 1), Ok(()), None),
+            Row(Act::Say(Kind::Setup, 11, 2), Ok(()), None),
+            Row(Act::Say(Kind::Setup, 10, 2), Ok(()), Some(Kind::BusyAgain)),
+            Row(Act::Serve(2), Err(PartyBusy), None),
         ];
         run(rt, yard, &rows)
     }
@@ -173,11 +180,11 @@ mod tests {
         told: Kind,
     ) -> Result<(), Fail> {
         let rows = [
-            Row(Act::Line(2, 0), 0, None),
-            Row(Act::Serve(2), 0, Some(Kind::Free)),
-            Row(Act::Say(Kind::Setup, caller, 2), 0, None),
-            Row(Act::Serve(2), 9, None),
-            Row(Act::Outcome(2, outcome), 0, Some(told)),
+            Row(Act::Line(2, 0), Ok(()), None),
+            Row(Act::Serve(2), Ok(()), Some(Kind::Free)),
+            Row(Act::Say(Kind::Setup, caller, 2), Ok(()), None),
+            Row(Act::Serve(2), Err(NothingThere), None),
+            Row(Act::Outcome(2, outcome), Ok(()), Some(told)),
         ];
         run(rt, yard, &rows)
     }
@@ -185,10 +192,10 @@ mod tests {
     // CLOSE is answered whether a monitor stands or not; what fits no row is dropped.
     fn closes<L: Link>(rt: &impl Abort, yard: &mut Yard<L>) -> Result<(), Fail> {
         let rows = [
-            Row(Act::Say(Kind::Close, 12, 2), 0, Some(Kind::LetGo)),
-            Row(Act::Say(Kind::Close, 12, 2), 0, Some(Kind::LetGo)),
-            Row(Act::Say(Kind::Setup, 13, 2), 0, None),
-            Row(Act::Say(Kind::LetGo, 13, 2), 0, None),
+            Row(Act::Say(Kind::Close, 12, 2), Ok(()), Some(Kind::LetGo)),
+            Row(Act::Say(Kind::Close, 12, 2), Ok(()), Some(Kind::LetGo)),
+            Row(Act::Say(Kind::Setup, 13, 2), Ok(()), None),
+            Row(Act::Say(Kind::LetGo, 13, 2), Ok(()), None),
         ];
         run(rt, yard, &rows)
     }
@@ -196,31 +203,31 @@ mod tests {
     // Each outcome: the caller that met a busy line is still the first.
     fn ends<L: Link>(rt: &impl Abort, yard: &mut Yard<L>) -> Result<(), Fail> {
         rings(rt, yard, 10, 2, Kind::BusyAgain)?;
-        assert_eq!(rt; done(yard, Act::Serve(2))?, 10);
+        does(rt, yard, Act::Serve(2), Err(PartyBusy))?;
         rings(rt, yard, 10, 1, Kind::Connected)?;
-        assert_eq!(rt; done(yard, Act::Serve(2))?, 10);
+        does(rt, yard, Act::Serve(2), Err(PartyBusy))?;
         rings(rt, yard, 11, 3, Kind::Failed)
     }
 
     // With the link back full: 8, and all stays until there is room.
     fn waits<L: Link>(rt: &impl Abort, yard: &mut Yard<L>) -> Result<(), Fail> {
         let ringing = [
-            Row(Act::Line(2, 0), 0, None),
-            Row(Act::Serve(2), 0, Some(Kind::Free)),
-            Row(Act::Say(Kind::Setup, 13, 2), 0, None),
+            Row(Act::Line(2, 0), Ok(()), None),
+            Row(Act::Serve(2), Ok(()), Some(Kind::Free)),
+            Row(Act::Say(Kind::Setup, 13, 2), Ok(()), None),
         ];
         run(rt, yard, &ringing)?;
         let filler = message(Kind::Yes, 9, 9)?;
         yard.back.send(filler)?;
         yard.back.send(filler)?;
-        assert_eq!(rt; done(yard, Act::Serve(3))?, 8);
-        assert_eq!(rt; done(yard, Act::Outcome(2, 1))?, 8);
-        assert_eq!(rt; done(yard, Act::Say(Kind::Close, 14, 2))?, 8);
+        does(rt, yard, Act::Serve(3), Err(LinkFull))?;
+        does(rt, yard, Act::Outcome(2, 1), Err(LinkFull))?;
+        does(rt, yard, Act::Say(Kind::Close, 14, 2), Err(LinkFull))?;
         let later = [
-            Row(Act::Hear, 8, Some(Kind::Yes)),
-            Row(Act::Hear, 0, Some(Kind::Yes)),
-            Row(Act::Hear, 9, Some(Kind::LetGo)),
-            Row(Act::Outcome(2, 1), 0, Some(Kind::Connected)),
+            Row(Act::Hear, Err(LinkFull), Some(Kind::Yes)),
+            Row(Act::Hear, Ok(()), Some(Kind::Yes)),
+            Row(Act::Hear, Err(NothingThere), Some(Kind::LetGo)),
+            Row(Act::Outcome(2, 1), Ok(()), Some(Kind::Connected)),
         ];
         run(rt, yard, &later)
     }
@@ -234,41 +241,45 @@ mod tests {
         waits(rt, yard)
     }
 
+    // The story over two links with these places.
+    fn over<P: Places + Drop>(rt: &impl Abort, heap: Global, out: P, back: P) -> Result<(), Fail> {
+        let (Ok(out), Ok(back)) = (Ring::new(out), Ring::new(back)) else {
+            return Err(Fail::new("no link"));
+        };
+        let office = office(heap)?;
+        story(rt, &mut Yard { office, out, back })
+    }
+
     #[test]
     fn over_shelves(rt: HostRuntime) -> Result<(), Fail> {
         let nobody = message(Kind::LetGo, 0, 0)?;
-        let Ok(out) = Shelf::new(vec![in rt.alloc(); nobody; 2]?) else {
-            return Err(Fail::new("no shelf"));
-        };
-        let Ok(back) = Shelf::new(vec![in rt.alloc(); nobody; 2]?) else {
-            return Err(Fail::new("no shelf"));
-        };
-        let office = office(rt.alloc())?;
-        story(&rt, &mut Yard { office, out, back })
+        let out = vec![in rt.alloc(); nobody; 2]?;
+        let back = vec![in rt.alloc(); nobody; 2]?;
+        over(&rt, rt.alloc(), out, back)
     }
 
     #[test]
     fn over_trunks(rt: HostRuntime) -> Result<(), Fail> {
-        let Ok(out) = Trunk::new(vec![in rt.alloc(); 0u8; 30]?) else {
-            return Err(Fail::new("no trunk"));
-        };
-        let Ok(back) = Trunk::new(vec![in rt.alloc(); 0u8; 30]?) else {
-            return Err(Fail::new("no trunk"));
-        };
-        let office = office(rt.alloc())?;
-        story(&rt, &mut Yard { office, out, back })
+        let out = Frames(vec![in rt.alloc(); 0u8; 30]?);
+        let back = Frames(vec![in rt.alloc(); 0u8; 30]?);
+        over(&rt, rt.alloc(), out, back)
     }
 
-    // The refusal's number of an office with these lines and places, or 0.
-    fn made(heap: Global, lines: &[LineSetting], places: u64) -> Result<u8, Fail> {
+    // An office with these lines and places is made, or refused so.
+    fn makes(
+        rt: &impl Abort,
+        heap: Global,
+        lines: &[LineSetting],
+        places: u64,
+        answer: Result<(), Refusal>,
+    ) -> Result<(), Fail> {
         let settings = TerminatingSettings {
             lines: lines.to_vec(heap)?,
             places,
         };
-        match Terminating::new(heap, &settings) {
-            Ok(_) => Ok(0),
-            Err(refusal) => Ok(refusal.number()),
-        }
+        let found = Terminating::new(heap, &settings).map(|_| ());
+        assert_eq!(rt; found, answer);
+        Ok(())
     }
 
     #[test]
@@ -276,9 +287,8 @@ mod tests {
         let heap = rt.alloc();
         let (identity, service) = (2, 5);
         let line = LineSetting { identity, service };
-        assert_eq!(rt; made(heap, &[line], 256)?, 0);
-        assert_eq!(rt; made(heap, &[line], 257)?, 17);
-        assert_eq!(rt; made(heap, &[line, line], 1)?, 17);
-        Ok(())
+        makes(&rt, heap, &[line], 256, Ok(()))?;
+        makes(&rt, heap, &[line], 257, Err(SettingNotAllowed))?;
+        makes(&rt, heap, &[line, line], 1, Err(SettingNotAllowed))
     }
 }

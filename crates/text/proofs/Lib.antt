@@ -1,3 +1,5 @@
+pub mod Lists
 pub mod Nibbles
-pub mod Splits
+pub mod Pairs
+pub mod Steps
 pub mod Values

@@ -1,9 +1,8 @@
-ghost use Rattle.std.specs.Prelude.{◌≡◌, ◌^◌, ◌<◌, length, IfSome, IfOk, string_bytes, ◌==◌};
-ghost use Rattle.text.specs.Words.{words, word_of};
-ghost use Rattle.text.specs.Numbers.{number_of, numbers_of, spaced_word, spaced_of};
+// Numbers in decimal.
+ghost use Rattle.std.specs.Prelude.{◌≡◌, ◌^◌, ◌<◌, IfSome, Some};
+ghost use Rattle.text.specs.Numbers.{number_of, spaced_of};
 
-use crate::words::next_word;
-use std::alloc::{AllocError, Global};
+use std::fmt;
 
 // The most digits that a number may have.
 const DIGITS: usize = 15;
@@ -13,55 +12,24 @@ pub fn number(word: &[u8]) -> Option<u64>
     ensures value { result ≡ number_of word.now }
     ensures small { IfSome result (λ n. n < 10 ^ 15) }
 {
-    if word.is_empty() || word.len() > DIGITS {
+    // `parse` alone would take a leading plus.
+    if word.len() > DIGITS || !word.iter().all(|byte| byte.is_ascii_digit()) {
         return None;
     }
-    let mut value = 0;
-    for digit in word {
-        if *digit < b'0' || *digit > b'9' {
-            return None;
+    str::from_utf8(word).ok()?.parse().ok()
+}
+
+// Numbers, each after a space.
+#[derive(Clone, Copy, Debug)]
+pub struct Spaced<'a>(pub &'a [u64]);
+
+impl fmt::Display for Spaced<'_> {
+    ghost output = { λ numbers. Some (spaced_of numbers.0.now) };
+
+    fn fmt<W: fmt::Write>(&self, f: &mut fmt::Formatter<W>) -> fmt::Result {
+        for number in self.0 {
+            write!(f, " {number}")?;
         }
-        value = value * 10 + u64::from(*digit - b'0');
+        Ok(())
     }
-    Some(value)
-}
-
-// Whether the text has no word.
-fn is_blank(text: &[u8]) -> bool
-    ensures { result ≡ (length (word_of text.now) == 0) }
-{
-    let (word, _) = next_word(text);
-    word.is_empty()
-}
-
-// The values of a text of exactly N words, each a number.
-pub fn numbers<const N: usize>(text: &[u8]) -> Option<[u64; N]>
-    ensures { result ≡ numbers_of N (words text.now) }
-{
-    let mut values = [0; N];
-    let mut rest = text;
-    for value in values.iter_mut() {
-        let (word, after) = next_word(rest);
-        *value = number(word)?;
-        rest = after;
-    }
-    if is_blank(rest) { Some(values) } else { None }
-}
-
-fn spaced_word(heap: Global, number: u64) -> Result<String, AllocError>
-    ensures { IfOk result (λ s. string_bytes s ≡ spaced_word number) }
-{
-    format!(in heap; " {number}")
-}
-
-// The numbers, each after a space.
-pub fn spaced(heap: Global, numbers: &[u64]) -> Result<String, AllocError>
-    ensures { IfOk result (λ s. string_bytes s ≡ spaced_of numbers.now) }
-{
-    let mut text = String::new(heap);
-    for number in numbers {
-        let word = spaced_word(heap, *number)?;
-        text.push_str(word.as_str())?;
-    }
-    Ok(text)
 }

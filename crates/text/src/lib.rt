@@ -2,9 +2,9 @@
 #![tactic(auto)]
 
 pub mod decimal;
-pub mod hex;
+pub mod hexadecimal;
 pub mod words;
 
-pub use decimal::{number, numbers, spaced};
-pub use hex::{hex_bytes, push_hex};
-pub use words::{next_word, same_text};
+pub use decimal::{Spaced, number};
+pub use hexadecimal::{hex_array, hex_bytes, push_hex};
+pub use words::Words;

@@ -1,8 +1,6 @@
-use Rattle.std.proofs.Common.{◌∙◌}
-use Rattle.pdu_lines.proofs.Replies.{image-told}
+use Rattle.std.proofs.Common.{replicate, refl}
+use Rattle.pdu_lines.proofs.Images.{fits}
 use Rattle.pdu_lines.proofs.writing.write_image.Goals as goal
 
-pub returns : goal.returns
-returns c =
-    image-told c.image-bits.result.0 c.image-bits.result.1 c.image-bits.ensures.image c.bytes_for.ensures c.in_ok-text.ensures.ok
-    c.in_ok-push_hex.ensures.written (c.as_str.ensures.value ∙ c.in_ok-count.ensures.ok) c.in_ok-push_str.ensures.bytes
+pub unwrap-bits-requires : goal.unwrap-bits-requires
+unwrap-bits-requires c = fits c.args.pdu.now c.write_pdu.result (replicate 34 0) c.write_pdu.new.out refl c.write_pdu.ensures.value

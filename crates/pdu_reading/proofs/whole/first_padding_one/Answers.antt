@@ -1,25 +1,25 @@
-use Rattle.std.proofs.Common.{◌≡◌, ◌+◌, ◌-◌, ◌*◌, ◌/◌, ◌%◌, ◌^◌, ◌<◌, length, get_or, sym, ◌∙◌, arith}
-use Rattle.std.proofs.lemmas.Nat.{and_mask}
-use Rattle.pdu.proofs.Rounds.{first_one-none, first-here, first-later}
+use Rattle.std.proofs.Common.{◌/◌, ◌≤◌, sym, ◌∙◌, arith}
+use Rattle.pdu.proofs.Rounds.{first_one-none}
+use Rattle.pdu_reading.proofs.Padding.{no-padding-one, padding-one, padding-place}
 use Rattle.pdu_reading.proofs.whole.first_padding_one.Goals as goal
 
-pub returns-then-count-eq0 : goal.returns-then-count-eq0
-returns-then-count-eq0 c = sym (first_one-none c.args.bytes.now c.args.count (omega arith))
+pub returns-in_err-padding : goal.returns-in_err-padding
+returns-in_err-padding c = c.from_residual.ensures ∙ sym (first_one-none c.args.bytes.now c.args.count (omega (arith, c.in_err-padding.ensures.lookup.3)))
 
-pub returns-then-last-i-eq1 : goal.returns-then-last-i-eq1
-returns-then-last-i-eq1 c =
-    let k = c.args.count / 8 in
-    let within : k < length c.args.bytes.now = omega arith in
-    let one : get_or c.args.bytes.now k 0 / 2 ^ (7 - c.loop-i.i) % 2 ≡ 1 = sym (and_mask _ 1) ∙ c.if-last-i-eq1.true in
-    sym (c.loop-i.invariant ∙ first-here c.args.bytes.now k c.loop-i.i within (omega arith) one)
+pub overflow_add-result : goal.overflow_add-result
+overflow_add-result c =
+    let got = c.in_ok-padding.ensures.lookup in
+    let here : c.args.count / 8 ≤ c.args.count / 8 = omega arith in
+    record { fits = padding-place c.args.bytes.now c.args.count c.in_ok-padding.field-0.now got.3.0 (got.4 here 0) c.ranges.count.fits (omega (arith, c.if-padding-eq0.false)) }
 
-pub loop-i-preserved : goal.loop-i-preserved
-loop-i-preserved c =
-    let k = c.args.count / 8 in
-    let within : k < length c.args.bytes.now = omega arith in
-    let m = and_mask (get_or c.args.bytes.now k 0 / 2 ^ (7 - c.loop-i.i)) 1 in
-    let zero : get_or c.args.bytes.now k 0 / 2 ^ (7 - c.loop-i.i) % 2 ≡ 0 = omega (arith, m, c.if-last-i-eq1.false) in
-    c.loop-i.invariant ∙ first-later c.args.bytes.now k c.loop-i.i within (omega arith) zero
+pub returns-then-padding-eq0 : goal.returns-then-padding-eq0
+returns-then-padding-eq0 c =
+    let got = c.in_ok-padding.ensures.lookup in
+    let here : c.args.count / 8 ≤ c.args.count / 8 = omega arith in
+    no-padding-one c.args.bytes.now c.args.count c.in_ok-padding.field-0.now got.3.0 (got.4 here 0) c.requires c.if-padding-eq0.true
 
-pub returns : goal.returns
-returns c = sym (c.loop-i.invariant ∙ first_one-none c.args.bytes.now (c.args.count / 8 * 8 + c.loop-i.i) (omega arith))
+pub returns-else-padding-eq0 : goal.returns-else-padding-eq0
+returns-else-padding-eq0 c =
+    let got = c.in_ok-padding.ensures.lookup in
+    let here : c.args.count / 8 ≤ c.args.count / 8 = omega arith in
+    padding-one c.args.bytes.now c.args.count c.in_ok-padding.field-0.now got.3.0 (got.4 here 0) (omega (arith, c.if-padding-eq0.false))

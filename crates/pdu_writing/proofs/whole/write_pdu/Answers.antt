@@ -1,9 +1,8 @@
-use Rattle.std.proofs.Common.{◌≡◌, ◌++◌, take, ap, ◌∙◌, subst}
+use Rattle.std.proofs.Common.{◌≡◌, take, ap, ◌∙◌, subst}
 use Rattle.std.proofs.lemmas.List.{take_all}
 use Rattle.bits.specs.Bits.{Bitlike}
-use Rattle.bits.specs.Buffers.{held, put_out}
-use Rattle.bits.proofs.BufferLaws.{held-bits}
-use Rattle.pdu.specs.Whole.{bits_of_pdu}
+use Rattle.bits.specs.Buffers.{put_out}
+use Rattle.pdu.specs.Bits.{all_bits, bits_of_pdu}
 use Rattle.pdu.proofs.Rounds.{reads-back}
 use Rattle.pdu.proofs.Sizes.{sizes}
 use Rattle.pdu_writing.proofs.whole.write_pdu.Goals as goal
@@ -11,9 +10,9 @@ use Rattle.pdu_writing.proofs.whole.write_pdu.Goals as goal
 pub returns : goal.returns
 returns c =
     let p = c.args.pdu.now in
-    let after = c.append_pdu.new.buffer in
-    let holds : held after ≡ bits_of_pdu p = c.append_pdu.ensures.is ∙ ap (λ l. take 272 (l ++ bits_of_pdu p)) c.new-buffer.ensures ∙ take_all 272 (bits_of_pdu p) (sizes p) in
+    let told = ap all_bits (c.as_slice.ensures.value ∙ c.told_of.ensures) in
+    let holds : c.spell.result ≡ bits_of_pdu p = c.spell.ensures.is ∙ ap (take 272) told ∙ take_all 272 (bits_of_pdu p) (sizes p) in
     record {
-      value = c.put_out.ensures ∙ ap (λ l. put_out l c.args.out.now) holds;
-      back = reads-back p (subst Bitlike holds (held-bits after));
+      value = c.put_out.ensures.value ∙ ap (λ l. put_out l c.args.out.now) holds;
+      back = reads-back p (subst Bitlike holds c.put_out.ensures.bits);
     }

@@ -1,17 +1,10 @@
-use Rattle.std.proofs.Common.{◌∙◌, arith}
-use Rattle.requests.proofs.Walks.{smallest-start, smallest-step, smallest-end}
+use Rattle.std.proofs.Common.{Bor, rules, ◌∙◌}
+use Rattle.std.proofs.lemmas.Iterator.{YieldsList-from_slice}
+use Rattle.std.proofs.lemmas.Iterator.Consumers.{YieldsList-from_filter, YieldsList-at}
+use Rattle.requests.proofs.Minimum.{minimum}
+use Rattle.requests.specs.declared.records.Request.{Request}
 use Rattle.requests.proofs.least.smallest.Goals as goal
 
-pub loop-i-init : goal.loop-i-init
-loop-i-init g c = smallest-start (g.T.Test.passes c.args.test.now) c.args.requests.now _ (omega arith)
-
-pub loop-i-preserved-then-test : goal.loop-i-preserved-then-test
-loop-i-preserved-then-test g c =
-    c.smaller-least.ensures ∙ smallest-step _ _ _ _ _ c.loop-i-test.true c.loop-i.auto.i c.index-requests-i.is _ c.if-test.ensures c.loop-i.invariant
-
-pub loop-i-preserved : goal.loop-i-preserved
-loop-i-preserved g c =
-    smallest-step _ _ _ _ _ c.loop-i-test.true c.loop-i.auto.i c.index-requests-i.is _ c.if-test.ensures c.loop-i.invariant
-
 pub returns : goal.returns
-returns g c = smallest-end _ _ _ _ c.loop-i.invariant c.loop-i-test.false
+returns g c = λ p h.
+    c.copied.ensures ∙ minimum (λ (x : Bor Request). x.now) (λ (r : Request). r.number) _ _ _ _ _ c.min_by_key.ensures.ran (λ x k f e. search rules) _ (YieldsList-from_filter _ p (YieldsList-at c.filter.ensures.source (YieldsList-from_slice c.args.requests.now c.iter.ensures.rest)) c.filter.ensures.closure (λ x b q k. search rules))

@@ -1,26 +1,23 @@
-use Rattle.std.proofs.Common.{◌≡◌, ◌+◌, ◌-◌, ◌/◌, ◌^◌, [], ◌∷◌, ◌++◌, get_or, take, sym, ap, ◌∙◌, subst, arith}
-use Rattle.std.proofs.lemmas.Nat.{and_mask}
-use Rattle.std.proofs.lemmas.List.{take_more, take_all}
+use Rattle.std.proofs.Common.{◌≡◌, ◌-◌, ◌/◌, ◌^◌, ◌≤◌, map, length, arith}
+use Rattle.std.proofs.lemmas.List.{length-map}
+use Rattle.std.specs.Int.{from_bool}
 use Rattle.bits.specs.Bits.{digits}
-use Rattle.bits.proofs.BitLaws.{length_digits}
-use Rattle.bits.specs.Buffers.{Adds}
-use Rattle.bits.proofs.BufferLaws.{adds_none, adds, get_or-digits}
+use Rattle.bits.proofs.BufferLaws.{adds, adds_none, pushed, digits_more, odd}
 use Rattle.bits.proofs.buffer.BitBuffer.push.Goals as goal
 
-pub loop-i-init : goal.loop-i-init
-loop-i-init c = adds_none c.args.self.now
+pub loop-place-init : goal.loop-place-init
+unfolding digits
+loop-place-init c =
+    let items = c.self.inside.bits.items in
+    let e : c.args.width - c.args.width ≡ 0 = omega arith in
+    let room : length (map from_bool items) ≤ 272 = rw (length-map items from_bool) c.self.invariant in
+    record { adds = rw e (adds_none (map from_bool items) room); room = c.self.invariant }
 
-pub loop-i-preserved : goal.loop-i-preserved
-loop-i-preserved c =
-    let ds = digits c.args.width c.args.value in
-    let i = c.loop-i.i in
-    let l = length_digits c.args.width c.args.value in
-    let t : take (i + 1) ds ≡ take i ds ++ get_or ds i 0 ∷ [] = take_more ds i 0 (omega arith) in
-    let b = and_mask (c.args.value / 2 ^ (c.args.width - 1 - i)) 1 ∙ sym (get_or-digits c.args.width c.args.value i c.loop-i-test.true) in
-    subst (λ xs. Adds c.args.self.now xs c.push_bit.new.self) (ap (λ d. take i ds ++ d ∷ []) b ∙ sym t) (adds c.loop-i.invariant c.push_bit.ensures)
-
-pub returns : goal.returns
-returns c =
-    let ds = digits c.args.width c.args.value in
-    let l = length_digits c.args.width c.args.value in
-    subst (λ xs. Adds c.args.self.now xs c.loop-i.self) (take_all c.loop-i.i ds (omega arith)) c.loop-i.invariant
+pub loop-place-preserved : goal.loop-place-preserved
+loop-place-preserved c =
+    let e = c.try_push.ensures in
+    let one = pushed c.try_push.result c.loop-place.self-inside.bits c.try_push.new.self _ e.variant e.ok e.err e.full in
+    record {
+      adds = rw (digits_more c.args.width c.loop-place.place c.args.value (omega arith) (omega arith)) (adds c.loop-place.invariant.adds (rw (← odd (c.args.value / 2 ^ (c.loop-place.place - 1))) one.0));
+      room = one.1;
+    }

@@ -1,12 +1,19 @@
-use Rattle.std.proofs.Common.{◌++◌, take, drop, ap, ◌∙◌, arith}
-use Rattle.bits.proofs.BufferLaws.{refused, gone-out}
+use Rattle.std.proofs.Common.{take, set, ap, ◌∙◌, refl}
+use Rattle.bits.specs.Bits.{pack}
+use Rattle.bits.proofs.BufferLaws.{put_more, flags-bits}
 use Rattle.bits.proofs.buffer.BitBuffer.put_out.Goals as goal
 
-pub returns-then-out-n : goal.returns-then-out-n
-returns-then-out-n c = refused c.args.self.now c.args.out.now (omega arith)
+pub loop-k-init : goal.loop-k-init
+unfolding pack
+loop-k-init c = refl
 
-pub returns : goal.returns
-returns c =
-    let b = c.args.self.now in
-    let after = c.copy_front.ensures.copied ∙ ap (λ k. take k b.bytes ++ drop k c.args.out.now) c.bytes_for-n.ensures in
-    gone-out b c.args.out.now _ c.copy_front.ensures.bytes (omega arith) after
+pub loop-k-preserved : goal.loop-k-preserved
+loop-k-preserved c =
+    ap (λ l. set l c.loop-k.k c.byte.result) c.loop-k.invariant
+    ∙ put_more c.loop-k.k c.args.self.now (take c.bytes_for-bytes.result c.args.out.now) c.byte.result c.loop-k-test.true c.byte.ensures
+
+pub returns-clause-bits : goal.returns-clause-bits
+returns-clause-bits c = rw (← c.self.view_is) (flags-bits c.self.inside.bits.items)
+
+pub returns-then-out-bytes-clause-bits : goal.returns-then-out-bytes-clause-bits
+returns-then-out-bytes-clause-bits c = rw (← c.self.view_is) (flags-bits c.self.inside.bits.items)

@@ -2,4 +2,4 @@ use Rattle.marks.proofs.Table.{count-is}
 use Rattle.marks.proofs.mask.Marks.held_count.Goals as goal
 
 pub returns : goal.returns
-returns c = count-is c.args.self.bits c.args.self.fits
+returns c = count-is c.args.self

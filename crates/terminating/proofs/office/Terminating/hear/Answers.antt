@@ -1,12 +1,9 @@
-use Rattle.std.proofs.Common.{ap}
-use Rattle.terminating.proofs.Calls.{hear-as-found, lawful}
+use Rattle.std.proofs.Common.{rules}
+use Rattle.terminating.proofs.Calls.{lawful}
 use Rattle.terminating.proofs.office.Terminating.hear.Goals as goal
 
-pub returns : goal.returns
-returns g c = record {
-  step = c.take_up.ensures.step;
-  out_room = c.take_up.ensures.out_room;
-  back_room = c.take_up.ensures.back_room;
-  as_found = hear-as-found _ _ _ _ _ _ _ _ c.take_up.ensures.step;
-  law = lawful _ _ _ (ap (λ x. x.1) c.take_up.ensures.step);
-}
+pub returns-in_err-answer-clause-law : goal.returns-in_err-answer-clause-law
+returns-in_err-answer-clause-law g c = lawful _ _ _ (search rules)
+
+pub returns-clause-law : goal.returns-clause-law
+returns-clause-law g c = lawful _ _ _ (search rules)

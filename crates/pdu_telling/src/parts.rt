@@ -1,0 +1,76 @@
+// Tells the parts that PDUs share.
+ghost use Rattle.std.specs.Prelude.{◌≡◌, ◌+◌, ◌≤◌, ◌++◌, length};
+ghost use Rattle.pdu.specs.Parts.{identity as identity_form, called as called_form, key as key_form, outcome as outcome_form, optional_retain};
+
+use bits::ElementName;
+use element::{RetainCapability, Verdict};
+use fields::{Identity, Key};
+use pdu::Outcome;
+use source::{ToldList, tell, tell_present};
+
+fn tell_identity(
+    told: &mut ToldList,
+    ssi_name: ElementName,
+    extension_name: ElementName,
+    identity: &Identity,
+)
+    requires { length told.old.items + 2 ≤ 20 }
+    ensures { told.new.items ≡ told.old.items ++ (identity_form ssi_name extension_name).tell identity.now }
+{
+    let (ssi, extension) = identity.parts();
+    tell(told, ssi_name, &ssi);
+    tell(told, extension_name, &extension);
+}
+
+pub fn tell_called(told: &mut ToldList, called: &Identity)
+    requires { length told.old.items + 2 ≤ 20 }
+    ensures { told.new.items ≡ told.old.items ++ called_form.tell called.now }
+{
+    tell_identity(
+        told,
+        ElementName::CalledSsi,
+        ElementName::CalledExtension,
+        called,
+    );
+}
+
+pub fn tell_key(told: &mut ToldList, key: &Key)
+    requires { length told.old.items + 5 ≤ 20 }
+    ensures { told.new.items ≡ told.old.items ++ key_form.tell key.now }
+{
+    tell(told, ElementName::Ccbsi, &key.identifier);
+    tell_identity(
+        told,
+        ElementName::CallingSsi,
+        ElementName::CallingExtension,
+        &key.caller,
+    );
+    tell_called(told, &key.called);
+}
+
+// The verdict under this name, and the cause of a rejection.
+pub fn tell_outcome(told: &mut ToldList, name: ElementName, outcome: &Outcome)
+    requires { length told.old.items + 2 ≤ 20 }
+    ensures { told.new.items ≡ told.old.items ++ (outcome_form name).tell outcome.now }
+{
+    match outcome {
+        Ok(()) => tell(told, name, &Verdict::Accepted),
+        Err(cause) => {
+            tell(told, name, &Verdict::Rejected);
+            tell(told, ElementName::RejectCause, cause);
+        }
+    }
+}
+
+pub fn tell_optional_retain(told: &mut ToldList, retain: &Option<RetainCapability>)
+    requires { length told.old.items + 2 ≤ 20 }
+    ensures { told.new.items ≡ told.old.items ++ optional_retain.tell retain.now }
+{
+    match retain {
+        None => tell_present(told, false),
+        Some(capability) => {
+            tell_present(told, true);
+            tell(told, ElementName::RetainCapability, capability);
+        }
+    }
+}

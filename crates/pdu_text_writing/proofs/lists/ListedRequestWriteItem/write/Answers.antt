@@ -1,5 +1,0 @@
-use Rattle.field_text.proofs.FieldLaws.{told}
-use Rattle.pdu_text_writing.proofs.lists.ListedRequestWriteItem.write.Goals as goal
-
-pub returns : goal.returns
-returns c = told c.in_ok-write_field.ensures c.in_ok-write_called.ensures

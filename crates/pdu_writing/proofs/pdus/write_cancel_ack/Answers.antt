@@ -1,5 +1,0 @@
-use Rattle.bits.proofs.BufferLaws.{adds}
-use Rattle.pdu_writing.proofs.pdus.write_cancel_ack.Goals as goal
-
-pub returns : goal.returns
-returns c = adds c.write_element.ensures c.write_outcome.ensures
