@@ -16,7 +16,7 @@ use Rattle.source.specs.Hearing.{and_then}
 use Rattle.source.specs.declared.told.Told.{Told}
 use Rattle.source.specs.declared.told.Told.TheVariants.{Element, Present}
 
-drop_past : (all : List ℕ) (at : ℕ) (xs rest : List ℕ) → drop at all ≡ xs ++ rest → drop (at + length xs) all ≡ rest
+pub drop_past : (all : List ℕ) (at : ℕ) (xs rest : List ℕ) → drop at all ≡ xs ++ rest → drop (at + length xs) all ≡ rest
 drop_past all at xs rest h = sym (drop-drop (length xs) at all) ∙ ap (drop (length xs)) h ∙ drop_at xs rest (length xs) refl
 
 pub all_bits-append : (xs ys : List Told) → all_bits (xs ++ ys) ≡ all_bits xs ++ all_bits ys

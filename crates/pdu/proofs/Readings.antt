@@ -1,71 +1,100 @@
 -- A PDU is read from its own bits, and what is read is written there.
-use Rattle.std.proofs.Common.{◌≡◌, ℕ, ◌+◌, ◌<◌, List, [], ◌++◌, length, drop, Ok, Err, Result, sym, ap, ◌∙◌, append-nil, zero-add, arith, length-append, length-drop}
+use Rattle.std.proofs.Common.{◌≡◌, ℕ, ◌+◌, ◌-◌, List, [], ◌∷◌, ◌++◌, length, drop, Ok, Err, Result, sym, ap, subst, ◌∙◌, append-nil, zero-add, arith, length-append, length-drop}
 use Rattle.std.proofs.lemmas.Bool.{le-leb, lt-leb}
 use Rattle.bits.specs.Bits.{Bitlike}
 use Rattle.bits.specs.declared.fault.Fault.{Fault}
 use Rattle.bits.proofs.BitLaws.{length_digits}
 use Rattle.element.specs.declared.listed.PduType.{PduType}
 use Rattle.pdu.specs.Bits.{all_bits, Place, bit_hearing, bits_of_pdu, placed, reading}
-use Rattle.pdu.specs.Pdus.{RequestAck, is_rejection}
+use Rattle.pdu.specs.Pdus.{RequestAck, request_accepted, request_rejected, request_ack_told, request_ack_hear, request_ack-reads, is_rejection}
 use Rattle.pdu.specs.Whole.{type_of, told_of, head, Agrees, pdu_hear, pdu-reads, pdu-wrote}
 use Rattle.pdu.specs.declared.pdus.Pdu.{Pdu}
 use Rattle.pdu.specs.declared.pdus.Pdu.TheVariants as variants
-use Rattle.pdu.proofs.BitLaws.{stands-read, stands-wrote}
+use Rattle.pdu.specs.declared.pdus.RequestAccepted.{RequestAccepted}
+use Rattle.pdu.specs.declared.pdus.RequestRejected.{RequestRejected}
+use Rattle.pdu.proofs.BitLaws.{all_bits-append, drop_past, stands-read, stands-wrote}
 use Rattle.source.specs.Forms.{Stands, ok_same}
+use Rattle.source.specs.Hearing.{Hearing}
+use Rattle.source.specs.declared.told.Told.{Told}
+use Rattle.source.specs.declared.told.Told.TheVariants.{Element, Present}
 
--- where the elements of the head stand before more, the place after them is 11
-after-head : (t : PduType) (all : List ℕ) (u : Place) → Bitlike all → 11 < length all → Stands bit_hearing (all, 0) (head.tell t) u → (all ≡ u.0) × (u.1 ≡ 11)
-after-head t all u bl long h =
-    let w = stands-wrote (head.tell t) (all, 0) u bl h in
-    let d = length-drop u.1 all in
+-- the same elements lead to one place
+stands-same : {S F : Type 0} (h : Hearing S F) (ts : List Told) (s t u : S) → Stands h s ts t → Stands h s ts u → t ≡ u
+stands-same h [] s t u p q = sym p ∙ q
+stands-same h (Element c ∷ ts) s t u p q =
+    let e : p.0 ≡ q.0 = ap (λ z. z.1) (ok_same (c.value, p.0) (c.value, q.0) (sym p.1 ∙ q.1)) in
+    stands-same h ts p.0 t u p.2 (subst (λ z. Stands h z ts u) (sym e) q.2)
+stands-same h (Present b ∷ ts) s t u p q =
+    let e : p.0 ≡ q.0 = ap (λ z. z.1) (ok_same (b, p.0) (b, q.0) (sym p.1 ∙ q.1)) in
+    stands-same h ts p.0 t u p.2 (subst (λ z. Stands h z ts u) (sym e) q.2)
+
+-- the place after the head is 11 bits on
+after-head : (t : PduType) (all : List ℕ) (at : ℕ) (rest : List ℕ) (u : Place) → drop at all ≡ all_bits (head.tell t) ++ rest → Stands bit_hearing (all, at) (head.tell t) u → (all, at + 11) ≡ u
+after-head t all at rest u e h =
     let size : length (all_bits (head.tell t)) ≡ 11 = simp (length-append, length_digits) in
-    let l : length all ≡ length (all_bits (head.tell t)) + length (drop u.1 all) = ap length w.1 ∙ length-append (all_bits (head.tell t)) (drop u.1 all) in
-    (w.0, omega arith)
+    let there = stands-read (head.tell t) all at rest e in
+    stands-same bit_hearing (head.tell t) (all, at) (all, at + 11) u (subst (λ n. Stands bit_hearing (all, at) (head.tell t) (all, at + n)) size there) h
 
-rejection : (all : List ℕ) (u : Place) → (all ≡ u.0) × (u.1 ≡ 11) → bit_hearing.rejects u ≡ bit_hearing.rejects (all, 11)
-rejection all u e = λ i. bit_hearing.rejects (sym e.0 i, e.1 i)
+pub accepted-size : (a : RequestAccepted) → length (all_bits (request_accepted.tell a)) ≡ 80
+accepted-size a = simp (length-append, length_digits)
 
-ack-agrees : (a : RequestAck) (all : List ℕ) → Bitlike all → all ≡ bits_of_pdu (variants.RequestAck a) → (u : Place) → Stands bit_hearing (all, 0) (head.tell (type_of (variants.RequestAck a))) u → bit_hearing.rejects u ≡ is_rejection a
-ack-agrees (Ok a) all bl e u h =
-    let size : length (bits_of_pdu (variants.RequestAck (Ok a))) ≡ 91 = simp (length-append, length_digits) in
-    let l : length all ≡ 91 = ap length e ∙ size in
-    let at = after-head (type_of (variants.RequestAck (Ok a))) all u bl (omega arith) h in
-    rejection all u at ∙ lt-leb 93 (length all) (omega arith)
-ack-agrees (Err r) all bl e u h =
-    let size : length (bits_of_pdu (variants.RequestAck (Err r))) ≡ 93 = simp (length-append, length_digits) in
-    let l : length all ≡ 93 = ap length e ∙ size in
-    let at = after-head (type_of (variants.RequestAck (Err r))) all u bl (omega arith) h in
-    rejection all u at ∙ le-leb 93 (length all) (omega arith)
+pub rejected-size : (r : RequestRejected) → length (all_bits (request_rejected.tell r)) ≡ 82
+rejected-size r = simp (length-append, length_digits)
 
-agrees : (p : Pdu) (all : List ℕ) → Bitlike all → all ≡ bits_of_pdu p → (u : Place) → Stands bit_hearing (all, 0) (head.tell (type_of p)) u → Agrees bit_hearing u p
-agrees (variants.CallInformationRetention x) all bl e u h = tt
-agrees (variants.Cancel x) all bl e u h = tt
-agrees (variants.List x) all bl e u h = tt
-agrees (variants.Monitor x) all bl e u h = tt
-agrees (variants.Recall x) all bl e u h = tt
-agrees (variants.Request x) all bl e u h = tt
-agrees (variants.ResumeCompletion x) all bl e u h = tt
-agrees (variants.CancelAck x) all bl e u h = tt
-agrees (variants.ListAck x) all bl e u h = tt
-agrees (variants.MonitorAck x) all bl e u h = tt
-agrees (variants.RequestAck x) all bl e u h = ack-agrees x all bl e u h
-agrees (variants.Cancelled x) all bl e u h = tt
-agrees (variants.Failed x) all bl e u h = tt
-agrees (variants.FreeNotification x) all bl e u h = tt
-agrees (variants.SuspendCompletion x) all bl e u h = tt
-agrees (variants.UserBFree x) all bl e u h = tt
-agrees (variants.Cancellation x) all bl e u h = tt
-agrees (variants.Ccbsi x) all bl e u h = tt
-agrees (variants.CallInformationRelease x) all bl e u h = tt
+-- the length of what is left tells which answer to REQUEST it is
+ack-told : (a : RequestAck) (all : List ℕ) (at : ℕ) → drop at all ≡ all_bits (request_ack_told a) → bit_hearing.rejects (all, at) ≡ is_rejection a
+ack-told (Ok a) all at e =
+    let l : length all - at ≡ 80 = sym (length-drop at all) ∙ ap length e ∙ accepted-size a in
+    lt-leb (at + 82) (length all) (omega arith)
+ack-told (Err r) all at e =
+    let l : length all - at ≡ 82 = sym (length-drop at all) ∙ ap length e ∙ rejected-size r in
+    le-leb (at + 82) (length all) (omega arith)
+
+-- an answer to REQUEST is heard wherever nothing follows it
+pub ack-back : (a : RequestAck) (all : List ℕ) (at : ℕ) → drop at all ≡ all_bits (request_ack_told a) → request_ack_hear bit_hearing (all, at) ≡ Ok (a, (all, at + length (all_bits (request_ack_told a))))
+ack-back a all at e =
+    let ts = request_ack_told a in
+    request_ack-reads bit_hearing (all, at) a (all, at + length (all_bits ts)) (ack-told a all at e) (stands-read ts all at [] (e ∙ sym (append-nil (all_bits ts))))
+
+ack-agrees : (a : RequestAck) (all : List ℕ) (at : ℕ) → drop at all ≡ bits_of_pdu (variants.RequestAck a) → (u : Place) → Stands bit_hearing (all, at) (head.tell (type_of (variants.RequestAck a))) u → bit_hearing.rejects u ≡ is_rejection a
+ack-agrees a all at e u h =
+    let first = head.tell (type_of (variants.RequestAck a)) in
+    let parts = e ∙ all_bits-append first (request_ack_told a) in
+    let size : length (all_bits first) ≡ 11 = simp (length-append, length_digits) in
+    let rest : drop (at + 11) all ≡ all_bits (request_ack_told a) = ap (λ n. drop (at + n) all) (sym size) ∙ drop_past all at (all_bits first) (all_bits (request_ack_told a)) parts in
+    ap bit_hearing.rejects (sym (after-head (type_of (variants.RequestAck a)) all at (all_bits (request_ack_told a)) u parts h)) ∙ ack-told a all (at + 11) rest
+
+agrees : (p : Pdu) (all : List ℕ) (at : ℕ) → drop at all ≡ bits_of_pdu p → (u : Place) → Stands bit_hearing (all, at) (head.tell (type_of p)) u → Agrees bit_hearing u p
+agrees (variants.CallInformationRetention x) all at e u h = tt
+agrees (variants.Cancel x) all at e u h = tt
+agrees (variants.List x) all at e u h = tt
+agrees (variants.Monitor x) all at e u h = tt
+agrees (variants.Recall x) all at e u h = tt
+agrees (variants.Request x) all at e u h = tt
+agrees (variants.ResumeCompletion x) all at e u h = tt
+agrees (variants.CancelAck x) all at e u h = tt
+agrees (variants.ListAck x) all at e u h = tt
+agrees (variants.MonitorAck x) all at e u h = tt
+agrees (variants.RequestAck x) all at e u h = ack-agrees x all at e u h
+agrees (variants.Cancelled x) all at e u h = tt
+agrees (variants.Failed x) all at e u h = tt
+agrees (variants.FreeNotification x) all at e u h = tt
+agrees (variants.SuspendCompletion x) all at e u h = tt
+agrees (variants.UserBFree x) all at e u h = tt
+agrees (variants.Cancellation x) all at e u h = tt
+agrees (variants.Ccbsi x) all at e u h = tt
+agrees (variants.CallInformationRelease x) all at e u h = tt
+
+-- a PDU is heard wherever its bits stand and nothing follows them
+pub heard-back : (p : Pdu) (all : List ℕ) (at : ℕ) → drop at all ≡ bits_of_pdu p → pdu_hear bit_hearing (all, at) ≡ Ok (p, (all, at + length (bits_of_pdu p)))
+heard-back p all at e =
+    let ts = told_of p in
+    pdu-reads bit_hearing (all, at) p (all, at + length (all_bits ts)) (agrees p all at e) (stands-read ts all at [] (e ∙ sym (append-nil (all_bits ts))))
 
 -- a PDU is read from its own bits
-pub reading-back : (p : Pdu) (all : List ℕ) → Bitlike all → all ≡ bits_of_pdu p → reading all ≡ Ok (p, length all)
+pub reading-back : (p : Pdu) (all : List ℕ) → all ≡ bits_of_pdu p → reading all ≡ Ok (p, length all)
 unfolding reading
-reading-back p all bl e =
-    let ts = told_of p in
-    let stands = stands-read ts all 0 [] (e ∙ sym (append-nil (all_bits ts))) in
-    ap placed (pdu-reads bit_hearing (all, 0) p (all, 0 + length (all_bits ts)) (agrees p all bl e) stands)
-    ∙ ap (λ n. Ok (p, n)) (zero-add (length (all_bits ts)) ∙ ap length (sym e))
+reading-back p all e = ap placed (heard-back p all 0 e) ∙ ap (λ n. Ok (p, n)) (zero-add (length (bits_of_pdu p)) ∙ ap length (sym e))
 
 placed-from : (r : Result (Pdu × Place) Fault) (p : Pdu) (n : ℕ) → placed r ≡ Ok (p, n) → (u : Place) × (r ≡ Ok (p, u)) × (u.1 ≡ n)
 placed-from (Ok q) p n h = let e = ok_same {F = Fault} (q.0, q.1.1) (p, n) h in (q.1, ap (λ z. Ok (z.0, q.1)) e, ap (λ z. z.1) e)

@@ -50,7 +50,7 @@ spelt-decodes bytes n k p count size bits =
     let enc = bits_of_pdu p in
     let all : bits_of bytes n ≡ enc ++ [] = ap (take n) bits ∙ take_at enc (replicate k 0) n (sym count) ∙ sym (append-nil enc) in
     let same = all ∙ append-nil enc in
-    let r : reading (bits_of bytes n) ≡ Ok (p, n) = reading-back p (bits_of bytes n) (bits_of-bits bytes n) same ∙ ap (λ m. Ok (p, m)) (ap length same ∙ sym count) in
+    let r : reading (bits_of bytes n) ≡ Ok (p, n) = reading-back p (bits_of bytes n) same ∙ ap (λ m. Ok (p, m)) (ap length same ∙ sym count) in
     let pad : first_one n (drop n (unpack bytes)) ≡ None = ap (λ l. first_one n (drop n l)) bits ∙ ap (first_one n) (drop_at enc (replicate k 0) n (sym count)) ∙ first_one-zeros n k in
     cond-true _ _ _ (eq-eqb _ _ size) ∙ ap (closed bytes n) r ∙ cond-true _ _ _ (eq-eqb n n refl) ∙ ap (padded p) pad
 

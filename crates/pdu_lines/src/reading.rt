@@ -13,7 +13,8 @@ use pdu_text_reading::read_text;
 use std::alloc::{AllocError, Global};
 use text::{Words, hex_bytes, number};
 
-// The bytes of a word of hex digits; a dash is no bytes.
+// The bytes of a word of hex digits; a dash is no bytes. What a bad word means is its caller's to
+// say.
 fn bytes_word(heap: Global, word: &[u8]) -> Result<Option<Vec<u8>>, AllocError>
     ensures { IfOk result (λ o. option_map vec_items o ≡ bytes_word word.now) }
 {

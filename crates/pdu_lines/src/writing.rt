@@ -61,7 +61,8 @@ fn write_image(heap: Global, pdu: &Pdu) -> Result<String, AllocError>
     Ok(text)
 }
 
-// 0 and the PDU in the other form, or what is wrong.
+// 0 and the PDU in the other form, or what is wrong. A function: no `Display` can be added to a
+// `Result`.
 pub fn write_reply(heap: Global, line: Result<Line, LineFault>) -> Result<String, AllocError>
     ensures { IfOk result (λ s. string_bytes s ≡ reply_text line) }
 {

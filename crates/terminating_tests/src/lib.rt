@@ -61,6 +61,7 @@ mod tests {
         back: L,
     }
 
+    // A call of the office. Closures would each have a type of its own, and fit no table.
     #[derive(Clone, Copy, PartialEq, Eq, Debug)]
     enum Act {
         Line(u64, u64),
