@@ -1,10 +1,11 @@
 -- What `digits`, `number` and `unpack` are to each other.
-use Rattle.std.proofs.Common.{◌≡◌, ℕ, zero, suc, ◌+◌, ◌-◌, ◌*◌, ◌/◌, ◌%◌, ◌^◌, ◌<◌, ◌≤◌, min, List, [], ◌∷◌, ◌++◌, length, get_or, take, drop, Ok, Err, sym, refl, ap, ◌∙◌, subst, pow-suc, add-one, arith, length-drop, length-take, length-take-le, get_or-drop, get_or-take}
+use Rattle.std.proofs.Common.{◌≡◌, ℕ, zero, suc, ◌+◌, ◌-◌, ◌*◌, ◌/◌, ◌%◌, ◌^◌, ◌<◌, ◌≤◌, min, List, [], ◌∷◌, ◌++◌, length, get_or, take, drop, Ok, Err, sym, refl, ap, ◌∙◌, subst, pow-suc, add-one, arith, length-drop, length-take, length-take-le, get_or-drop, get_or-take, pow_mono}
 use native.Mathlib.Nat.{zero-div}
 use Rattle.std.specs.Int.Digits.{number_from_digits}
 use Rattle.std.proofs.lemmas.Int.Digits.{number_push, number_more}
 use Rattle.std.proofs.lemmas.List.{length_push, take_more, take_min}
 use Rattle.std.proofs.lemmas.Bool.{cond-true, cond-false, le-leb, lt-leb}
+pub use Rattle.bits.specs.Packing.{length-unpack}
 use Rattle.bits.specs.declared.fault.ElementName.{ElementName}
 use Rattle.bits.specs.Reading.{taken, ends_inside}
 use Rattle.bits.specs.Bits.{unpack, bits_of, digits, Bitlike}
@@ -34,6 +35,15 @@ digits-take (suc w) xs b h =
     ap (λ v. digits w v ++ (number_from_digits 2 (take (suc w) xs) % 2 ∷ [])) q ∙ ap (λ d. digits w (number_from_digits 2 (take w xs)) ++ (d ∷ [])) r
     ∙ ap (λ l. l ++ (get_or xs w 0 ∷ [])) (digits-take w xs b (omega arith)) ∙ sym m
 
+pub number_bound : (w : ℕ) (xs : List ℕ) → Bitlike xs → w ≤ length xs → number_from_digits 2 (take w xs) < 2 ^ w
+number_bound zero xs b h = omega arith
+number_bound (suc w) xs b h =
+    let n : number_from_digits 2 (take (suc w) xs) ≡ number_from_digits 2 (take w xs) * 2 + get_or xs w 0 = rw (← add-one w) (number_more 2 xs w (omega arith)) in
+    let ih = number_bound w xs b (omega arith) in
+    let lt = b w in
+    let p : 2 ^ suc w ≡ 2 ^ w * 2 = pow-suc 2 w in
+    omega arith
+
 pub get_or-unpack : (bs : List ℕ) (p : ℕ) → get_or (unpack bs) p 0 ≡ get_or bs (p / 8) 0 / 2 ^ (7 - p % 8) % 2
 unfolding unpack
 get_or-unpack [] p = sym (ap (λ n. n % 2) (zero-div (2 ^ (7 - p % 8))))
@@ -53,11 +63,6 @@ get_or-unpack (b ∷ bs) (suc (suc (suc (suc (suc (suc (suc (suc p)))))))) =
 
 pub unpack-bits : (bs : List ℕ) → Bitlike (unpack bs)
 unpack-bits bs i = omega (arith, get_or-unpack bs i)
-
-pub length-unpack : (bs : List ℕ) → length (unpack bs) ≡ 8 * length bs
-unfolding unpack
-length-unpack [] = refl
-length-unpack (b ∷ bs) = omega (arith, length-unpack bs)
 
 pub take-bits : (n : ℕ) (xs : List ℕ) → Bitlike xs → Bitlike (take n xs)
 take-bits zero xs b i = omega arith
@@ -82,6 +87,13 @@ bits_of-within bs n =
     let l = length-unpack bs in
     let t = length-take n (unpack bs) in
     (omega arith, omega arith)
+
+pub bits_of-reaches : (bs : List ℕ) (n m : ℕ) → m ≤ n → m ≤ 8 * length bs → m ≤ length (bits_of bs n)
+unfolding bits_of
+bits_of-reaches bs n m h k =
+    let l = length-unpack bs in
+    let t = length-take n (unpack bs) in
+    omega arith
 
 pub get_or-bits_of : (bs : List ℕ) (n i : ℕ) → i < n → get_or (bits_of bs n) i 0 ≡ get_or bs (i / 8) 0 / 2 ^ (7 - i % 8) % 2
 unfolding bits_of
@@ -120,7 +132,27 @@ number_step all at i v b a l p q =
     let bit : b ≡ get_or (drop at all) (i - at) 0 = q ∙ ap (λ j. get_or all j 0) (sym here) ∙ sym (get_or-drop at all (i - at) 0) in
     rw k (omega (arith, number_more 2 (drop at all) (i - at) (omega arith)))
 
+-- and one bit of bytes more
+pub number_step-bytes : (bs : List ℕ) (n at i : ℕ) → at ≤ i → i < length (bits_of bs n) →
+    number_from_digits 2 (take (i + 1 - at) (drop at (bits_of bs n))) ≡ number_from_digits 2 (take (i - at) (drop at (bits_of bs n))) * 2 + get_or bs (i / 8) 0 / 2 ^ (7 - i % 8) % 2
+number_step-bytes bs n at i a l =
+    let w = bits_of-within bs n in
+    sym (number_step (bits_of bs n) at i _ _ a l refl (sym (get_or-bits_of bs n i (omega arith))))
+
 pub power_step : (v b at i : ℕ) → at ≤ i → v < 2 ^ (i - at) → b < 2 → v * 2 + b < 2 ^ (i + 1 - at)
 power_step v b at i a h k =
     let e : i + 1 - at ≡ suc (i - at) = omega arith in
     rw (e, pow-suc 2 (i - at)) (omega arith)
+
+number_small : (bs : List ℕ) (n at w : ℕ) → at + w ≤ length (bits_of bs n) → number_from_digits 2 (take w (drop at (bits_of bs n))) < 2 ^ w
+number_small bs n at w a =
+    let d = length-drop at (bits_of bs n) in
+    number_bound w (drop at (bits_of bs n)) (drop_bits at (bits_of bs n) (bits_of-bits bs n)) (omega arith)
+
+-- up to 31 bits leave room for one more in 32
+pub number-room : (bs : List ℕ) (n at i : ℕ) → at ≤ i → i < length (bits_of bs n) → i < at + 32 → number_from_digits 2 (take (i - at) (drop at (bits_of bs n))) < 2 ^ 31
+number-room bs n at i a l m =
+    let k = number_small bs n at (i - at) (omega arith) in
+    let q : i - at ≤ 31 = omega arith in
+    let p : 2 ^ (i - at) ≤ 2 ^ 31 = pow_mono q in
+    omega arith

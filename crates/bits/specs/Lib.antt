@@ -1,5 +1,6 @@
 pub mod Bits
 pub mod Faults
-pub mod Flags
+pub mod Packing
 pub mod Reading
 pub mod Buffers
+pub mod Held

@@ -1,33 +1,35 @@
 // The bits of a PDU as it is written, before they go out.
-ghost use Rattle.std.specs.Prelude.{◌≡◌, ◌≤◌, [], drop};
-ghost use Rattle.bits.specs.Bits.{byte_of, digits, Bitlike};
+ghost use Rattle.std.specs.Prelude.{◌≡◌, ◌≤◌, []};
+ghost use Rattle.bits.specs.Bits.{digits, Bitlike};
 ghost use Rattle.bits.specs.Buffers.{Adds, put_out};
 
 use crate::reading::bytes_for;
-use arrayvec::ArrayVec;
 use fields::Refusal;
 use std::marker::Model;
 
-// The longest PDU has 272 bits.
-#[derive(Clone, PartialEq, Eq, Debug, Drop)]
+// The longest PDU has 272 bits. Those after the first `len` are 0.
+// Bytes: the library's bounded list is not `Copy`, and takes longer to fill.
+#[derive(Clone, Copy, PartialEq, Eq, Debug)]
 pub struct BitBuffer {
-    bits: ArrayVec<bool, 272>,
+    bytes: [u8; 34],
+    len: usize,
 }
 
 impl Model for BitBuffer {
-    ghost use Rattle.std.specs.Prelude.{List, ℕ, ◌≤◌, ◌==◌, length, map};
-    ghost use Rattle.std.specs.Int.{from_bool};
-    ghost use Rattle.bits.specs.Flags.{flags-back};
+    ghost use Rattle.std.specs.Prelude.{List, ℕ, length};
 
     ghost Value = { List ℕ };
 
-    ghost view = { λ b. map from_bool b.bits.items };
+    ghost use Rattle.bits.specs.Bits.{pack};
+    ghost use Rattle.bits.specs.Held.{held, Holds, held-packed, held-count};
 
-    ghost invariant = { λ b. length b.bits.items ≤ 272 };
+    ghost view = { held };
 
-    ghost inverse = { λ xs. record { bits = record { items = map (λ x. x == 1) xs } } };
+    ghost invariant = { Holds };
 
-    ghost inverse_ok = { λ b h i. record { bits = record { items = flags-back b.bits.items i } } };
+    ghost inverse = { λ xs. record { bytes = pack 34 xs; len = length xs } };
+
+    ghost inverse_ok = { λ b h i. record { bytes = held-packed b h i; len = held-count b h i } };
 }
 
 impl BitBuffer {
@@ -35,7 +37,8 @@ impl BitBuffer {
         ensures { result ≡ [] }
     {
         BitBuffer {
-            bits: ArrayVec::new(),
+            bytes: [0; 34],
+            len: 0,
         }
     }
 
@@ -45,21 +48,12 @@ impl BitBuffer {
         ensures { Adds self.old (digits width value) self.new }
     {
         for place in (0..width).rev() {
-            let _ = self.bits.try_push((value >> place) & 1 == 1);
+            if self.len < 272 {
+                let bit = u8::from((value >> place) & 1 == 1);
+                self.bytes[self.len / 8] += bit << (7 - self.len % 8);
+                self.len += 1;
+            }
         }
-    }
-
-    // The byte of the eight bits from `at` on, 0 where there are fewer.
-    fn byte(&self, at: usize) -> u8
-        requires { at ≤ 272 }
-        ensures { result ≡ byte_of (drop at self.now) }
-    {
-        let mut byte = 0;
-        for place in at..at + 8 {
-            let bit = self.bits.get(place).copied().unwrap_or(false);
-            byte = byte * 2 + u8::from(bit);
-        }
-        byte
     }
 
     // Puts the bytes that hold the bits at the front of `out`, and answers the count of bits. The caller lends the bytes, so no heap is needed.
@@ -67,13 +61,11 @@ impl BitBuffer {
         ensures value { (result, out.new) ≡ put_out self.now out.old }
         ensures bits { Bitlike self.now }
     {
-        let bytes = bytes_for(self.bits.len());
-        if out.len() < bytes {
+        let n = bytes_for(self.len);
+        if out.len() < n {
             return Err(Refusal::TooLittleRoom);
         }
-        for (k, byte) in out[..bytes].iter_mut().enumerate() {
-            *byte = self.byte(8 * k);
-        }
-        Ok(self.bits.len())
+        out[..n].copy_from_slice(&self.bytes[..n]);
+        Ok(self.len)
     }
 }

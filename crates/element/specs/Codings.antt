@@ -20,5 +20,5 @@ not_listed e at = record { reason = NotListed; layer = Element; element = Some e
 pub record Coding (A : Type 0) : Type 0 where
   pub width : ℕ
   pub some : 0 < width
-  pub room : width ≤ 48
+  pub room : width ≤ 32
   pub table : Table width A

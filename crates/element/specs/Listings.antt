@@ -32,7 +32,7 @@ find-all test holds (x ∷ more) a all h =
 pub record Listing (A : Type 0) : Type 0 where
   pub width : ℕ
   pub some : 0 < width
-  pub room : width ≤ 48
+  pub room : width ≤ 32
   pub code : A → ℕ
   pub values : List A
   pub small : list_all (λ a. nat_lt (code a) (2 ^ width)) values ≡ true

@@ -1,7 +1,7 @@
 -- Elements that take every number of their width.
-use Rattle.std.specs.Prelude.{◌≡◌, ℕ, ◌^◌, Bool, true, false, cond, Some, Ok, Err, Option, nat_lt, refl}
+use Rattle.std.specs.Prelude.{◌≡◌, ℕ, ◌^◌, ◌≤◌, Bool, true, false, cond, Some, Ok, Err, Option, nat_lt, refl}
 use Rattle.std.specs.Result.{result_ok}
-use Rattle.std.proofs.Common.{sym, ap, ◌∙◌, arith, mod-eq_of_lt}
+use Rattle.std.proofs.Common.{sym, ap, ◌∙◌, arith, lit≤, mod-eq_of_lt}
 use Rattle.std.proofs.lemmas.Bool.{ltb-true}
 use Rattle.element.specs.Codings.{Coding}
 use Rattle.element.specs.declared.kinds.ClirColr as clir_colr_kind
@@ -35,11 +35,11 @@ module _ {K : Type 0} (kind : Ghosts K) where
       cases (nat_lt v (2 ^ kind.WIDTH)) refl h
 
   -- a field of this kind, its bits being its code
-  abbrev pub number : Coding (Field K kind)
-  number = record {
+  abbrev pub number : kind.WIDTH ≤ 32 → Coding (Field K kind)
+  number room = record {
     width = kind.WIDTH;
     some = kind.some;
-    room = kind.narrow;
+    room = room;
     table = record { code = λ x. x.bits; listed = number-listed; fits = λ x. x.fits; back = λ x. ap result_ok (sym (accepted x)); forth = number-forth };
   }
 
@@ -47,25 +47,25 @@ abbrev pub ClirColr : Type 0
 ClirColr = Field clir_colr_kind.ClirColr clir_colr_ghosts.ghosts
 
 abbrev pub identifier : Coding Identifier
-identifier = number identifier_kind.ghosts
+identifier = number identifier_kind.ghosts (lit≤ tt)
 
 abbrev pub call_identifier : Coding CallIdentifier
-call_identifier = number call_identifier_kind.ghosts
+call_identifier = number call_identifier_kind.ghosts (lit≤ tt)
 
 abbrev pub ssi : Coding Ssi
-ssi = number ssi_kind.ghosts
+ssi = number ssi_kind.ghosts (lit≤ tt)
 
 abbrev pub extension : Coding Extension
-extension = number extension_kind.ghosts
+extension = number extension_kind.ghosts (lit≤ tt)
 
 abbrev pub priority : Coding Priority
-priority = number priority_kind.ghosts
+priority = number priority_kind.ghosts (lit≤ tt)
 
 abbrev pub service : Coding Service
-service = number service_kind.ghosts
+service = number service_kind.ghosts (lit≤ tt)
 
 abbrev pub area_selection : Coding AreaSelection
-area_selection = number area_selection_kind.ghosts
+area_selection = number area_selection_kind.ghosts (lit≤ tt)
 
 abbrev pub clir_colr : Coding ClirColr
-clir_colr = number clir_colr_ghosts.ghosts
+clir_colr = number clir_colr_ghosts.ghosts (lit≤ tt)

@@ -9,7 +9,7 @@ use std::marker::PhantomData;
 #[derive_where(PartialEq, Eq, Debug)]
 pub struct Field<K: Kind> {
     pub bits: u64,
-    pub(crate) kind: PhantomData<K>,
+    pub kind: PhantomData<K>,
     ghost fits: { bits < 2 ^ K.WIDTH },
 }
 

@@ -16,6 +16,14 @@ pub use outside::send_frame;
 // The trunk keeps messages as packed frames, in bytes that its maker hands over.
 pub type Trunk = Ring<Frames>;
 
+// Ends the trunk and gives its bytes back as they are. A function, since `Ring` stands in `link`.
+pub fn into_bytes(trunk: Trunk) -> Vec<u8>
+    ensures { result ≡ trunk.places.0 }
+{
+    let Frames(bytes) = trunk.into_places();
+    bytes
+}
+
 // The fields as one number of 120 bits. A loop over their widths would not show where each stands.
 fn pack(fields: [u64; 9]) -> u128
     requires { Within layout fields }

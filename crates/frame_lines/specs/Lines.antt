@@ -5,45 +5,59 @@ use Rattle.fields.specs.declared.refusal.Refusal.{Refusal}
 use Rattle.fields.specs.declared.refusal.Refusal.TheVariants.{OutsideField}
 use Rattle.fields.specs.Refusals.{refusal_number}
 use Rattle.link.specs.declared.message.Message.{Message}
-use Rattle.link.specs.declared.message.PlainMessage.{PlainMessage}
 use Rattle.link.specs.Messages.{plain_of, listed, unlisted, after, message_of}
 use Rattle.frame.specs.Frames.{frame_of, read_of}
 use Rattle.text.specs.Hex.{hex_array, hex_of}
 use Rattle.text.specs.Numbers.{numbers_of, spaced_of}
 use Rattle.text.specs.Words.{words}
 use Rattle.frame_lines.specs.Names.{kind_name, kind_named}
+use Rattle.frame_lines.specs.declared.lines.Line.{Line}
+use Rattle.frame_lines.specs.declared.lines.Line.TheVariants.{Decode, Encode}
 use Rattle.frame_lines.specs.declared.reply.Reply.{Reply}
 use Rattle.frame_lines.specs.declared.reply.Reply.TheVariants.{Decoded, Encoded}
 
-abbrev pub decoded_by : Option (List ℕ) → Result Reply Refusal
-decoded_by None = Err OutsideField
-decoded_by (Some bytes) = after (read_of bytes) (λ m. Ok (Decoded m))
+abbrev pub decode_by : Option (List ℕ) → Result Line Refusal
+decode_by None = Err OutsideField
+decode_by (Some bytes) = Ok (Decode bytes)
 
 -- one word, a frame of thirty hex digits
-abbrev pub decoded_of : List (List ℕ) → Result Reply Refusal
-decoded_of [] = Err OutsideField
-decoded_of (word ∷ []) = decoded_by (hex_array 15 word)
-decoded_of (word ∷ other ∷ more) = Err OutsideField
+abbrev pub decode_of : List (List ℕ) → Result Line Refusal
+decode_of [] = Err OutsideField
+decode_of (word ∷ []) = decode_by (hex_array 15 word)
+decode_of (word ∷ other ∷ more) = Err OutsideField
 
-abbrev pub plain_by : Option ℕ → Option (List ℕ) → Option PlainMessage
-plain_by None numbers = None
-plain_by (Some kind) None = None
-plain_by (Some kind) (Some numbers) = Some (unlisted (kind ∷ numbers))
+abbrev pub encode_by : Option ℕ → Option (List ℕ) → Result Line Refusal
+encode_by None numbers = Err OutsideField
+encode_by (Some kind) None = Err OutsideField
+encode_by (Some kind) (Some numbers) = Ok (Encode (unlisted (kind ∷ numbers)))
 
 -- the name of a kind and eight numbers
-abbrev pub plain_in : List (List ℕ) → Option PlainMessage
-plain_in [] = None
-plain_in (word ∷ rest) = plain_by (kind_named word) (numbers_of 8 rest)
+abbrev pub encode_of : List (List ℕ) → Result Line Refusal
+encode_of [] = Err OutsideField
+encode_of (word ∷ rest) = encode_by (kind_named word) (numbers_of 8 rest)
 
-abbrev pub encoded_by : Option PlainMessage → Result Reply Refusal
-encoded_by None = Err OutsideField
-encoded_by (Some plain) = after (message_of plain) (λ m. Ok (Encoded (frame_of m)))
+-- what the words of a line ask for
+abbrev pub line_of : List (List ℕ) → Result Line Refusal
+line_of [] = Err OutsideField
+line_of (word ∷ rest) =
+    cond (bytes_eq word (codes "d")) (decode_of rest) (cond (bytes_eq word (codes "e")) (encode_of rest) (Err OutsideField))
+
+abbrev pub encoded_by : Result Message Refusal → Result Reply Refusal
+encoded_by (Ok m) = Ok (Encoded (frame_of m))
+encoded_by (Err e) = Err e
+
+abbrev pub decoded_by : Result Message Refusal → Result Reply Refusal
+decoded_by (Ok m) = Ok (Decoded m)
+decoded_by (Err e) = Err e
+
+-- what a line that is read is answered with
+abbrev pub reply_to : Line → Result Reply Refusal
+reply_to (Decode bytes) = decoded_by (read_of bytes)
+reply_to (Encode plain) = encoded_by (message_of plain)
 
 -- what the words of a line are answered with
 abbrev pub reply_of : List (List ℕ) → Result Reply Refusal
-reply_of [] = Err OutsideField
-reply_of (word ∷ rest) =
-    cond (bytes_eq word (codes "d")) (decoded_of rest) (cond (bytes_eq word (codes "e")) (encoded_by (plain_in rest)) (Err OutsideField))
+reply_of ws = after (line_of ws) reply_to
 
 -- a message's kind by name and its other fields by number
 abbrev pub message_text : Message → List ℕ

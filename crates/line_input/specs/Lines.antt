@@ -1,6 +1,8 @@
 -- The lines of an input, and an answer to each.
-use Rattle.std.specs.Prelude.{◌≡◌, ℕ, ◌<◌, cond, List, [], ◌∷◌, ◌++◌, ◌==◌, slice_index, Result, IfOk, string_bytes}
+use Rattle.std.specs.Prelude.{◌≡◌, ℕ, ◌<◌, Bool, true, false, cond, length, Option, IfSome, List, [], ◌∷◌, ◌++◌, ◌==◌, slice_index, Result, IfOk, string_bytes}
 use Rattle.std.specs.Borrow.{Bor}
+use Rattle.std.specs.Io.BufRead.{first_piece, DropsThrough}
+use Rattle.std.specs.Io.KnownBytes.{IsAtEnd}
 use Rattle.std.specs.declared.string.String.{String}
 use Rattle.std.specs.declared.alloc.AllocError.{AllocError}
 use Rattle.std.specs.declared.alloc.Global.{Global}
@@ -33,3 +35,8 @@ answered text (line ∷ more) = text line ++ 10 ∷ [] ++ answered text more
 
 abbrev pub answers : (List ℕ → List ℕ) → List ℕ → List ℕ
 answers text input = answered text (lines input)
+
+-- where the bytes of a reader are known: their first line was read and is not left any more, or there was none
+abbrev pub ReadsLine : Bool → Option (List ℕ) → List ℕ → Option (List ℕ) → Type 0
+ReadsLine true old line new = IfSome old (λ xs. (0 < length xs) × (line ≡ first_piece 10 xs)) × DropsThrough old new 10
+ReadsLine false old line new = IsAtEnd old

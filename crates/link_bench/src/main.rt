@@ -6,15 +6,25 @@ use fields::{HandedBack, Identifier, Identity, Key, Refusal};
 use frame::{Frames, Trunk};
 use link::{Kind, Link, Message, NoCause, Shelf};
 use std::alloc::AllocError;
-use std::io;
 use std::time::Instant;
+use std::{fmt, io};
 
 const TURNS: u64 = 1_000_000;
 
-#[derive(Debug, Drop)]
+#[derive(Drop)]
 enum Failed {
     Io(io::Error),
     Refused(Refusal),
+}
+
+// By hand: `main` prints it, and is to say what the error itself says.
+impl fmt::Debug for Failed {
+    fn fmt<W: fmt::Write>(&self, f: &mut fmt::Formatter<W>) -> fmt::Result {
+        match self {
+            Failed::Io(error) => error.fmt(f),
+            Failed::Refused(refusal) => refusal.fmt(f),
+        }
+    }
 }
 
 impl From<io::Error> for Failed {

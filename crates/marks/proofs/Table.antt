@@ -5,9 +5,8 @@ use native.Mathlib.Bridge.{le_prop}
 use lib.Count.{ones_in, ones, count_trailing_zeros}
 use Rattle.std.specs.Int.{rotate_right}
 use Rattle.std.specs.Option.{option_eq}
-use Rattle.std.specs.Result.{result_ok}
-use Rattle.std.proofs.lemmas.Bool.{eqb-true, agree_below, agree_below_at, lt-ltb}
-use Rattle.fields.specs.Fields.{checked}
+use Rattle.std.proofs.lemmas.Bool.{eqb-true, agree_below, agree_below_at}
+use Rattle.fields.proofs.Same.{same-field}
 use Rattle.fields.specs.Values.{Identifier, identifier_of}
 use Rattle.marks.specs.declared.mask.Marks.{Marks}
 use Rattle.marks.specs.Marks.{held_count, all_held, holding, releasing, next_from, identified, next_issued}
@@ -87,8 +86,7 @@ module _ (m : Marks) where
     pub none_is : all_held m.bits ≡ true → None ≡ next_issued m i
     none_is all = ap identified (sym (ap (λ b. cond b None (Some (nearest m.bits (start_after i.bits)))) all) ∙ coded-is)
 
-    pub some_is : (n : ℕ) → all_held m.bits ≡ false → n ≡ nearest m.bits (start_after i.bits) → result_ok (checked 3 identifier_of n) ≡ next_issued m i
-    some_is n some e =
-        let within : n < 8 = omega arith in
-        let fits : result_ok (checked 3 identifier_of n) ≡ Some (identifier_of n) = rw (lt-ltb n 8 within) in
-        fits ∙ ap identified (ap Some e ∙ (sym (ap (λ b. cond b None (Some (nearest m.bits (start_after i.bits)))) some) ∙ coded-is))
+    pub some_is : (x : Identifier) → all_held m.bits ≡ false → x.bits ≡ nearest m.bits (start_after i.bits) → Some x ≡ next_issued m i
+    some_is x some e =
+        let found = ap Some e ∙ (sym (ap (λ b. cond b None (Some (nearest m.bits (start_after i.bits)))) some) ∙ coded-is) in
+        ap Some (same-field x (identifier_of x.bits) (omega (arith, x.fits))) ∙ ap identified found

@@ -4,6 +4,7 @@ ghost use Rattle.marks.specs.Marks.{no_marks, held_count, all_held, hold, releas
 
 use crate::mask::Marks;
 use fields::Identifier;
+use std::marker::PhantomData;
 
 impl Marks {
     // No identifier is held.
@@ -54,6 +55,9 @@ impl Marks {
         let from = (last.bits as u32 + 1) % 8;
         let turned = (!self.bits).rotate_right(from);
         let nearest = (turned.trailing_zeros() + from) % 8;
-        Identifier::try_from(u64::from(nearest)).ok()
+        Some(Identifier {
+            bits: u64::from(nearest),
+            kind: PhantomData,
+        })
     }
 }

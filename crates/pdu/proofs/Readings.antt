@@ -1,7 +1,8 @@
 -- A PDU is read from its own bits, and what is read is written there.
-use Rattle.std.proofs.Common.{◌≡◌, ℕ, ◌+◌, ◌-◌, List, [], ◌∷◌, ◌++◌, length, drop, Ok, Err, Result, sym, ap, subst, ◌∙◌, append-nil, zero-add, arith, length-append, length-drop}
+use Rattle.std.proofs.Common.{◌≡◌, ℕ, ◌+◌, ◌<◌, List, [], ◌∷◌, ◌++◌, length, drop, Ok, Err, Result, sym, ap, subst, ◌∙◌, append-nil, zero-add, arith, length-append, length-drop}
 use Rattle.std.proofs.lemmas.Bool.{le-leb, lt-leb}
 use Rattle.bits.specs.Bits.{Bitlike}
+use Rattle.bits.specs.declared.fault.ElementName.TheVariants as name
 use Rattle.bits.specs.declared.fault.Fault.{Fault}
 use Rattle.bits.proofs.BitLaws.{length_digits}
 use Rattle.element.specs.declared.listed.PduType.{PduType}
@@ -32,7 +33,7 @@ stands-same h (Present b ∷ ts) s t u p q =
 after-head : (t : PduType) (all : List ℕ) (at : ℕ) (rest : List ℕ) (u : Place) → drop at all ≡ all_bits (head.tell t) ++ rest → Stands bit_hearing (all, at) (head.tell t) u → (all, at + 11) ≡ u
 after-head t all at rest u e h =
     let size : length (all_bits (head.tell t)) ≡ 11 = simp (length-append, length_digits) in
-    let there = stands-read (head.tell t) all at rest e in
+    let there = stands-read name.RetainCapability (head.tell t) all at rest e in
     stands-same bit_hearing (head.tell t) (all, at) (all, at + 11) u (subst (λ n. Stands bit_hearing (all, at) (head.tell t) (all, at + n)) size there) h
 
 pub accepted-size : (a : RequestAccepted) → length (all_bits (request_accepted.tell a)) ≡ 80
@@ -41,20 +42,26 @@ accepted-size a = simp (length-append, length_digits)
 pub rejected-size : (r : RequestRejected) → length (all_bits (request_rejected.tell r)) ≡ 82
 rejected-size r = simp (length-append, length_digits)
 
+-- what is left of the bits
+pub left-size : (all : List ℕ) (at : ℕ) (xs : List ℕ) (n : ℕ) → 0 < n → length xs ≡ n → drop at all ≡ xs ++ [] → length all ≡ at + n
+left-size all at xs n some e h = let l = sym (length-drop at all) ∙ ap length (h ∙ append-nil xs) in omega arith
+
 -- the length of what is left tells which answer to REQUEST it is
 ack-told : (a : RequestAck) (all : List ℕ) (at : ℕ) → drop at all ≡ all_bits (request_ack_told a) → bit_hearing.rejects (all, at) ≡ is_rejection a
 ack-told (Ok a) all at e =
-    let l : length all - at ≡ 80 = sym (length-drop at all) ∙ ap length e ∙ accepted-size a in
+    let xs = all_bits (request_accepted.tell a) in
+    let l : length all ≡ at + 80 = left-size all at xs 80 (omega arith) (accepted-size a) (e ∙ sym (append-nil xs)) in
     lt-leb (at + 82) (length all) (omega arith)
 ack-told (Err r) all at e =
-    let l : length all - at ≡ 82 = sym (length-drop at all) ∙ ap length e ∙ rejected-size r in
+    let xs = all_bits (request_rejected.tell r) in
+    let l : length all ≡ at + 82 = left-size all at xs 82 (omega arith) (rejected-size r) (e ∙ sym (append-nil xs)) in
     le-leb (at + 82) (length all) (omega arith)
 
 -- an answer to REQUEST is heard wherever nothing follows it
 pub ack-back : (a : RequestAck) (all : List ℕ) (at : ℕ) → drop at all ≡ all_bits (request_ack_told a) → request_ack_hear bit_hearing (all, at) ≡ Ok (a, (all, at + length (all_bits (request_ack_told a))))
 ack-back a all at e =
     let ts = request_ack_told a in
-    request_ack-reads bit_hearing (all, at) a (all, at + length (all_bits ts)) (ack-told a all at e) (stands-read ts all at [] (e ∙ sym (append-nil (all_bits ts))))
+    request_ack-reads bit_hearing (all, at) a (all, at + length (all_bits ts)) (ack-told a all at e) (stands-read name.RetainCapability ts all at [] (e ∙ sym (append-nil (all_bits ts))))
 
 ack-agrees : (a : RequestAck) (all : List ℕ) (at : ℕ) → drop at all ≡ bits_of_pdu (variants.RequestAck a) → (u : Place) → Stands bit_hearing (all, at) (head.tell (type_of (variants.RequestAck a))) u → bit_hearing.rejects u ≡ is_rejection a
 ack-agrees a all at e u h =
@@ -89,7 +96,7 @@ agrees (variants.CallInformationRelease x) all at e u h = tt
 pub heard-back : (p : Pdu) (all : List ℕ) (at : ℕ) → drop at all ≡ bits_of_pdu p → pdu_hear bit_hearing (all, at) ≡ Ok (p, (all, at + length (bits_of_pdu p)))
 heard-back p all at e =
     let ts = told_of p in
-    pdu-reads bit_hearing (all, at) p (all, at + length (all_bits ts)) (agrees p all at e) (stands-read ts all at [] (e ∙ sym (append-nil (all_bits ts))))
+    pdu-reads bit_hearing (all, at) p (all, at + length (all_bits ts)) (agrees p all at e) (stands-read name.RetainCapability ts all at [] (e ∙ sym (append-nil (all_bits ts))))
 
 -- a PDU is read from its own bits
 pub reading-back : (p : Pdu) (all : List ℕ) → all ≡ bits_of_pdu p → reading all ≡ Ok (p, length all)
@@ -105,5 +112,5 @@ pub reading-wrote : (p : Pdu) (all : List ℕ) (n : ℕ) → Bitlike all → rea
 unfolding reading
 reading-wrote p all n bl h =
     let i = placed-from (pdu_hear bit_hearing (all, 0)) p n h in
-    let w = stands-wrote (told_of p) (all, 0) i.0 bl (pdu-wrote bit_hearing (all, 0) p i.0 i.1) in
+    let w = stands-wrote name.RetainCapability (told_of p) (all, 0) i.0 bl (pdu-wrote bit_hearing (all, 0) p i.0 i.1) in
     w.1 ∙ ap (λ m. bits_of_pdu p ++ drop m all) i.2

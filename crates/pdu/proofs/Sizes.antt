@@ -34,13 +34,13 @@ several-size tell n each (x ∷ xs) =
 
 few-size : (f : Few Identifier) → length (all_bits (lists.few_rest parts.ccbsi f)) ≤ 15
 few-size f =
-    let few = f.few in
-    omega (arith, several-size parts.ccbsi.tell 3 (λ x. simp (length-append, length_digits)) f.items.items)
+    let few = lists.members-few f in
+    omega (arith, several-size parts.ccbsi.tell 3 (λ x. simp (length-append, length_digits)) (lists.members f))
 
 details-size : (f : Few ListedRequest) → length (all_bits (lists.few_rest lists.listed_request f)) ≤ 255
 details-size f =
-    let few = f.few in
-    omega (arith, several-size lists.listed_request.tell 51 (λ x. simp (length-append, length_digits)) f.items.items)
+    let few = lists.members-few f in
+    omega (arith, several-size lists.listed_request.tell 51 (λ x. simp (length-append, length_digits)) (lists.members f))
 
 listing-size : (l : Listing) → length (all_bits (lists.listing_rest l)) ≤ 255
 listing-size (listings.Count n) = simp (all_bits-append, length-append, length_digits) (lit≤ tt)

@@ -1,10 +1,8 @@
 -- The answer to LIST.
 use Rattle.std.specs.Prelude.{◌≡◌, ℕ, zero, suc, ◌≤◌, List, [], ◌∷◌, length, take, Ok, Err, Result, refl}
 use Rattle.std.specs.List.{flat_map}
-use Rattle.std.proofs.Common.{sym, ap, ◌∙◌, subst, arith, length-take}
+use Rattle.std.proofs.Common.{sym, ap, ◌∙◌, subst, arith, lit≤}
 use Rattle.std.proofs.lemmas.List.{take_all}
-use mathlib.Core.HLevel.{is_prop→PathP}
-use native.Mathlib.Bridge.{le_prop}
 use Rattle.bits.specs.declared.fault.ElementName.TheVariants as name
 use Rattle.element.specs.Listed as listed
 use Rattle.element.specs.declared.listed.ListRequest.{ListRequest}
@@ -16,6 +14,7 @@ use Rattle.element.specs.declared.listed.Verdict.{Verdict}
 use Rattle.element.specs.declared.listed.Verdict.TheVariants as verdicts
 use Rattle.pdu.specs.Parts.{ccbsi, called, list_request, reject_cause}
 use Rattle.pdu.specs.declared.lists.Few.{Few}
+use Rattle.pdu.specs.declared.lists.Few.TheVariants as fews
 use Rattle.pdu.specs.declared.lists.ListedRequest.{ListedRequest}
 use Rattle.pdu.specs.declared.lists.Listing.{Listing}
 use Rattle.pdu.specs.declared.lists.Listing.TheVariants as listings
@@ -23,11 +22,53 @@ use Rattle.source.specs.Forms.{Form, Stands, element, way, way-reads, way-keyed,
 use Rattle.source.specs.Hearing.{Hearing, and_then, named}
 use Rattle.source.specs.declared.told.Told.{Told}
 
-abbrev pub few_tag : {A : Type 0} → Few A → UpToFive
-few_tag f = record { count = length f.items.items; few = f.few }
+module _ {A : Type 0} where
+  abbrev pub members : Few A → List A
+  members fews.Zero = []
+  members (fews.One v) = v ∷ []
+  members (fews.Two v w) = v ∷ w ∷ []
+  members (fews.Three v w x) = v ∷ w ∷ x ∷ []
+  members (fews.Four v w x y) = v ∷ w ∷ x ∷ y ∷ []
+  members (fews.Five v w x y z) = v ∷ w ∷ x ∷ y ∷ z ∷ []
 
-abbrev pub few_of : {A : Type 0} → List A → Few A
-few_of xs = record { items = record { items = take 5 xs }; few = omega (arith, length-take 5 xs) }
+  pub members-few : (f : Few A) → length (members f) ≤ 5
+  members-few fews.Zero = lit≤ tt
+  members-few (fews.One v) = lit≤ tt
+  members-few (fews.Two v w) = lit≤ tt
+  members-few (fews.Three v w x) = lit≤ tt
+  members-few (fews.Four v w x y) = lit≤ tt
+  members-few (fews.Five v w x y z) = lit≤ tt
+
+  abbrev pub few_tag : Few A → UpToFive
+  few_tag f = record { count = length (members f); few = members-few f }
+
+  -- the first five
+  abbrev pub few_of : List A → Few A
+  few_of [] = fews.Zero
+  few_of (v ∷ []) = fews.One v
+  few_of (v ∷ w ∷ []) = fews.Two v w
+  few_of (v ∷ w ∷ x ∷ []) = fews.Three v w x
+  few_of (v ∷ w ∷ x ∷ y ∷ []) = fews.Four v w x y
+  few_of (v ∷ w ∷ x ∷ y ∷ z ∷ more) = fews.Five v w x y z
+
+  pub few_of-members : (f : Few A) → few_of (members f) ≡ f
+  few_of-members fews.Zero = refl
+  few_of-members (fews.One v) = refl
+  few_of-members (fews.Two v w) = refl
+  few_of-members (fews.Three v w x) = refl
+  few_of-members (fews.Four v w x y) = refl
+  few_of-members (fews.Five v w x y z) = refl
+
+  pub members-few_of : (xs : List A) → members (few_of xs) ≡ take 5 xs
+  members-few_of [] = refl
+  members-few_of (v ∷ []) = refl
+  members-few_of (v ∷ w ∷ []) = refl
+  members-few_of (v ∷ w ∷ x ∷ []) = refl
+  members-few_of (v ∷ w ∷ x ∷ y ∷ []) = refl
+  members-few_of (v ∷ w ∷ x ∷ y ∷ z ∷ more) = refl
+
+  pub same_few : (f g : Few A) → members f ≡ members g → f ≡ g
+  same_few f g e = sym (few_of-members f) ∙ ap few_of e ∙ few_of-members g
 
 -- as many as the length says, one after the other
 module _ {S F A : Type 0} (item : S → Result (A × S) F) where
@@ -38,12 +79,9 @@ module _ {S F A : Type 0} (item : S → Result (A × S) F) where
   abbrev pub few_heard : UpToFive → S → Result (Few A × S) F
   few_heard n s = named few_of (items_heard n.count s)
 
-pub same_few : {A : Type 0} (f g : Few A) → f.items.items ≡ g.items.items → f ≡ g
-same_few f g e = λ i. record { items = record { items = e i }; few = is_prop→PathP (λ j. length (e j) ≤ 5) (λ j. le_prop) f.few g.few i }
-
 module _ {A : Type 0} (c : Form A) where
   abbrev pub few_rest : Few A → List Told
-  few_rest f = flat_map c.tell f.items.items
+  few_rest f = flat_map c.tell (members f)
 
   pub items-reads : {S F : Type 0} (h : Hearing S F) (xs : List A) (s t : S) → Stands h s (flat_map c.tell xs) t → items_heard (c.hear h) (length xs) s ≡ Ok (xs, t)
   items-reads h [] s t p = ap (λ u. Ok ([], u)) p
@@ -71,16 +109,15 @@ module _ {A : Type 0} (c : Form A) where
 
   pub few-reads : {S F : Type 0} (h : Hearing S F) (s : S) (f : Few A) (t : S) → Stands h s (few_rest f) t → few_heard (c.hear h) (few_tag f) s ≡ Ok (f, t)
   few-reads h s f t p =
-      ap (named few_of) (items-reads h f.items.items s t p)
-      ∙ ap (λ g. Ok (g, t)) (same_few (few_of f.items.items) f (take_all 5 f.items.items f.few))
+      ap (named few_of) (items-reads h (members f) s t p) ∙ ap (λ g. Ok (g, t)) (few_of-members f)
 
   few-made : {S F : Type 0} (h : Hearing S F) (k : UpToFive) (s u t : S) (xs : List A) (f : Few A) → ◌≡◌ {A = Result (Few A × S) F} (Ok (few_of xs, u)) (Ok (f, t)) →
       (length xs ≡ k.count) × Stands h s (flat_map c.tell xs) u → (few_tag f ≡ k) × Stands h s (few_rest f) t
   few-made h k s u t xs f p w =
       let few = k.few in
-      let all : take 5 xs ≡ xs = take_all 5 xs (omega arith) in
+      let all : members (few_of xs) ≡ xs = members-few_of xs ∙ take_all 5 xs (omega arith) in
       let e = ok_same (few_of xs, u) (f, t) p in (
-        same_count (few_tag f) k (ap (λ z. length z.0.items.items) (sym e) ∙ ap length all ∙ w.0),
+        same_count (few_tag f) k (ap (λ z. length (members z.0)) (sym e) ∙ ap length all ∙ w.0),
         subst (λ z. Stands h s (few_rest z.0) z.1) e (subst (λ ys. Stands h s (flat_map c.tell ys) u) (sym all) w.1),
       )
 

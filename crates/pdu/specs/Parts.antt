@@ -96,8 +96,11 @@ outcome-wrote h verdicts.Rejected = way-keyed reject_cause Err outcome_tag outco
 abbrev pub outcome : ElementName → Form Outcome
 outcome e = keyed (element e listed.verdict) (record { tag = outcome_tag; rest = outcome_rest; body = outcome_body; reads = outcome-reads; wrote = outcome-wrote })
 
+abbrev pub flag : ElementName → Form Bool
+flag e = element e listed.flag
+
 abbrev pub request_maintained : Form Bool
-request_maintained = element name.RequestMaintained listed.flag
+request_maintained = flag name.RequestMaintained
 
 abbrev pub optional_retain : Form (Option RetainCapability)
 optional_retain = optional retain_capability

@@ -1,63 +1,82 @@
 // The answer to LIST.
-ghost use Rattle.std.specs.Prelude.{◌≡◌, ℕ, ◌<◌, ◌≤◌, [], ◌∷◌, ◌++◌, length, slice_index_or};
-ghost use Rattle.std.specs.List.{AllZip};
+ghost use Rattle.std.specs.Prelude.{◌≡◌, ◌<◌, ◌≤◌, [], ◌∷◌, ◌++◌, length};
+ghost use Rattle.pdu.specs.Lists.{members};
 
 use arrayvec::ArrayVec;
 use element::{RejectCause, UpToFive};
 use fields::{Identifier, Identity};
-use std::alloc::AllocError;
+use std::mem;
 
-// Up to five, in order.
-#[derive(PartialEq, Eq, Debug, Drop)]
-pub struct Few<T> {
-    pub items: ArrayVec<T, 5>,
-    ghost few: { length items.items ≤ 5 },
-}
-
-// No derive gives it to a struct with a type parameter and a ghost field.
-impl<T: Default + Clone> Clone for Few<T> {
-    ghost is_clone = { λ f g. AllZip T.is_clone f.items.items g.items.items };
-
-    ghost is_infallible = { λ f. (i : ℕ) (d : T) → i < length f.items.items → T.is_infallible (slice_index_or f.items.items i d) };
-
-    fn clone(&self) -> Result<Few<T>, AllocError> {
-        Ok(Few {
-            items: self.items.clone()?,
-        })
-    }
-}
-
-impl<T: Default + Drop> Few<T> {
-    pub fn new() -> Few<T>
-        ensures { result.items.items ≡ [] }
-    {
-        Few {
-            items: ArrayVec::new(),
-        }
-    }
-
-    pub fn push(&mut self, item: T)
-        requires { length self.old.items.items < 5 }
-        ensures { self.new.items.items ≡ self.old.items.items ++ item ∷ [] }
-    {
-        self.items.push(item);
-    }
+// Up to five, in order: cases, since the library's bounded list is not `Copy`.
+#[derive(Clone, Copy, PartialEq, Eq, Debug, Drop)]
+pub enum Few<T> {
+    Zero,
+    One(T),
+    Two(T, T),
+    Three(T, T, T),
+    Four(T, T, T, T),
+    Five(T, T, T, T, T),
 }
 
 impl<T> Few<T> {
-    pub fn as_slice(&self) -> &[T]
-        ensures { result.now ≡ self.now.items.items }
+    pub fn new() -> Few<T>
+        ensures { members result ≡ [] }
     {
-        self.items.as_slice()
+        Few::Zero
     }
 
     pub fn count(&self) -> UpToFive
-        ensures { result.count ≡ length self.now.items.items }
+        ensures { result.count ≡ length (members self.now) }
     {
-        UpToFive {
-            count: self.items.len(),
+        let count = match self {
+            Few::Zero => 0,
+            Few::One(_) => 1,
+            Few::Two(_, _) => 2,
+            Few::Three(_, _, _) => 3,
+            Few::Four(_, _, _, _) => 4,
+            Few::Five(_, _, _, _, _) => 5,
+        };
+        UpToFive { count }
+    }
+}
+
+impl<T: Drop> Few<T> {
+    pub fn push(&mut self, item: T)
+        requires { length (members self.old) < 5 }
+        ensures { members self.new ≡ members self.old ++ item ∷ [] }
+    {
+        *self = match mem::replace(self, Few::Zero) {
+            Few::Zero => Few::One(item),
+            Few::One(a) => Few::Two(a, item),
+            Few::Two(a, b) => Few::Three(a, b, item),
+            Few::Three(a, b, c) => Few::Four(a, b, c, item),
+            Few::Four(a, b, c, d) => Few::Five(a, b, c, d, item),
+            Few::Five(..) => unreachable!(),
+        };
+    }
+}
+
+impl<T: Copy + Default> Few<T> {
+    // Copies of them, since they lie in no slice.
+    pub fn members(&self) -> ArrayVec<T, 5>
+        ensures { result.items ≡ members self.now }
+    {
+        match *self {
+            Few::Zero => ArrayVec::new(),
+            Few::One(a) => copied(&[a]),
+            Few::Two(a, b) => copied(&[a, b]),
+            Few::Three(a, b, c) => copied(&[a, b, c]),
+            Few::Four(a, b, c, d) => copied(&[a, b, c, d]),
+            Few::Five(a, b, c, d, e) => copied(&[a, b, c, d, e]),
         }
     }
+}
+
+fn copied<T: Copy + Default>(items: &[T]) -> ArrayVec<T, 5>
+    requires { length items.now ≤ 5 }
+    ensures { result.items ≡ items.now }
+{
+    ArrayVec::try_from(items).unwrap()
 }
 
 #[derive(Clone, Copy, PartialEq, Eq, Debug, Default)]
@@ -73,7 +92,7 @@ pub struct RequestCounts {
     pub request_count: UpToFive,
 }
 
-#[derive(Clone, PartialEq, Eq, Debug, Drop)]
+#[derive(Clone, Copy, PartialEq, Eq, Debug)]
 pub enum Listing {
     Count(RequestCounts),
     Identifiers(Few<Identifier>),

@@ -84,7 +84,7 @@ pub struct Cancellation {
     pub cancellation_cause: CancellationCause,
 }
 
-#[derive(Clone, PartialEq, Eq, Debug, Drop)]
+#[derive(Clone, Copy, PartialEq, Eq, Debug)]
 pub enum Pdu {
     CallInformationRetention(CallInformationRetention),
     Cancel(Identifier),

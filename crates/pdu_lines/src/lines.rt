@@ -5,7 +5,7 @@ use pdu::Pdu;
 use std::alloc::AllocError;
 
 // It is read first and answered after, since only then it is known in which form to write.
-#[derive(PartialEq, Eq, Debug, Drop)]
+#[derive(Clone, Copy, PartialEq, Eq, Debug)]
 pub enum Line {
     // given in bits, to be told as text
     Bits(Pdu),

@@ -1,5 +1,5 @@
 // Writing the answer to a line.
-ghost use Rattle.std.specs.Prelude.{◌≡◌, ◌++◌, IfOk, Some, string_bytes, codes};
+ghost use Rattle.std.specs.Prelude.{◌≡◌, ◌++◌, IfOk, Ok, Some, string_bytes, codes};
 ghost use Rattle.pdu.specs.Bytes.{image_of};
 ghost use Rattle.pdu_lines.specs.Lines.{layer_name, element_name, line_fault_text, image_text, reply_text};
 
@@ -61,17 +61,26 @@ fn write_image(heap: Global, pdu: &Pdu) -> Result<String, AllocError>
     Ok(text)
 }
 
+// 0 and the PDU in the other form.
+fn write_found(heap: Global, line: Line) -> Result<String, AllocError>
+    ensures { IfOk result (λ s. string_bytes s ≡ reply_text (Ok line)) }
+{
+    match line {
+        Line::Bits(pdu) => {
+            let text = write_text(heap, &pdu)?;
+            format!(in heap; "0 {text}")
+        }
+        Line::Text(pdu) => write_image(heap, &pdu),
+    }
+}
+
 // 0 and the PDU in the other form, or what is wrong. A function: no `Display` can be added to a
 // `Result`.
 pub fn write_reply(heap: Global, line: Result<Line, LineFault>) -> Result<String, AllocError>
     ensures { IfOk result (λ s. string_bytes s ≡ reply_text line) }
 {
     match line {
-        Ok(Line::Bits(pdu)) => {
-            let text = write_text(heap, &pdu)?;
-            format!(in heap; "0 {text}")
-        }
-        Ok(Line::Text(pdu)) => write_image(heap, &pdu),
+        Ok(found) => write_found(heap, found),
         Err(fault) => fault.to_string(heap),
     }
 }

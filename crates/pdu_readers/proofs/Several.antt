@@ -1,7 +1,7 @@
 -- Items heard one after the other.
-use Rattle.std.proofs.Common.{◌≡◌, ℕ, ◌+◌, ◌-◌, ◌<◌, ◌≤◌, suc, List, [], ◌∷◌, ◌++◌, Ok, Err, Result, sym, refl, ap, ◌∙◌, append_assoc, append-nil, length, take, arith}
-use Rattle.std.proofs.lemmas.List.{take_all, length_push}
-use Rattle.pdu.specs.Lists.{few_of, same_few, items_heard}
+use Rattle.std.proofs.Common.{◌≡◌, ℕ, ◌+◌, ◌-◌, ◌<◌, ◌≤◌, suc, List, [], ◌∷◌, ◌++◌, Ok, Err, Result, sym, refl, ap, ◌∙◌, append_assoc, append-nil, length, arith}
+use Rattle.std.proofs.lemmas.List.{length_push}
+use Rattle.pdu.specs.Lists.{members, few_of, few_of-members, items_heard}
 use Rattle.pdu.specs.declared.lists.Few.{Few}
 use Rattle.source.specs.Hearing.{and_then, named}
 
@@ -31,11 +31,10 @@ module _ {S F A : Type 0} (item : S → Result (A × S) F) (n i : ℕ) (start s 
       ∙ ap (λ ys. after ys (items_heard item (n - (i + 1)) rest)) (sym q)
 
   -- as many as there are
-  pub done : (few : Few A) → xs ≡ few.items.items → n ≤ i → Ok (few, s) ≡ named few_of (items_heard item n start)
+  pub done : (few : Few A) → xs ≡ members few → n ≤ i → Ok (few, s) ≡ named few_of (items_heard item n start)
   done few p h =
       let e : n - i ≡ 0 = omega arith in
-      let all : take 5 few.items.items ≡ few.items.items = take_all 5 few.items.items few.few in
-      let same : few_of xs ≡ few = same_few (few_of xs) few (ap (take 5) p ∙ all) in
+      let same : few_of xs ≡ few = ap few_of p ∙ few_of-members few in
       let heard : items_heard item n start ≡ Ok (xs, s) = heard ∙ ap (λ k. after xs (items_heard item k s)) e ∙ ap (λ ys. Ok (ys, s)) (append-nil xs) in
       ap (λ f. Ok (f, s)) (sym same) ∙ ap (named few_of) (sym heard)
 

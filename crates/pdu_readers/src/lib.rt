@@ -2,9 +2,9 @@
 #![tactic(auto)]
 
 mod bodies;
-mod lists;
-mod parts;
-mod pdus;
-mod request_acks;
+pub mod lists;
+pub mod parts;
+pub mod pdus;
+pub mod request_acks;
 
 pub use bodies::{read_body, read_head};

@@ -9,7 +9,7 @@ use element::{ListRequest, RejectCause, UpToFive, Verdict};
 use pdu::{Few, ListAck, ListedRequest, Listing, RequestCounts};
 use source::{Source, read_element};
 
-fn read_listed_request<S: Source>(source: S) -> Result<(ListedRequest, S), S::Fault>
+pub fn read_listed_request<S: Source>(source: S) -> Result<(ListedRequest, S), S::Fault>
     ensures { result ≡ listed_request.hear S.Source.hearing source }
 {
     let (ccbsi, source) = read_ccbsi(source)?;
@@ -18,7 +18,7 @@ fn read_listed_request<S: Source>(source: S) -> Result<(ListedRequest, S), S::Fa
 }
 
 // Takes a closure: the borrow checker does not cover a generic function that is passed by its name.
-fn read_few<S: Source, T: Default + Drop, F: Fn(S) -> Result<(T, S), S::Fault>>(
+fn read_few<S: Source, T: Drop, F: Fn(S) -> Result<(T, S), S::Fault>>(
     source: S,
     count: UpToFive,
     read: F,

@@ -22,12 +22,13 @@ impl<'a> Model for BitSource<'a> {
 }
 
 impl<'a> BitSource<'a> {
-    pub fn new(bits: &'a Bits<'a>) -> BitSource<'a>
-        ensures { result ≡ (bits.now, 0) }
+    pub fn new(bits: &'a Bits<'a>, at: usize) -> BitSource<'a>
+        ensures { result ≡ (bits.now, at) }
     {
-        BitSource { bits, at: 0 }
+        BitSource { bits, at }
     }
 
+    // Where the next element begins.
     pub fn place(&self) -> usize
         ensures { result ≡ self.now.1 }
     {

@@ -40,7 +40,7 @@ pub fn read_pdu(bytes: &[u8], count: usize) -> Result<Pdu, Fault>
 fn read_start(bits: &Bits<'_>) -> Result<(Pdu, usize), Fault>
     ensures { result ≡ reading bits.now }
 {
-    let (pdu_type, source) = read_head(BitSource::new(bits))?;
+    let (pdu_type, source) = read_head(BitSource::new(bits, 0))?;
     let (pdu, source) = read_body(source, pdu_type)?;
     Ok((pdu, source.place()))
 }

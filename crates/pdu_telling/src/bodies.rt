@@ -1,5 +1,6 @@
 // Tells a PDU by its type.
-ghost use Rattle.std.specs.Prelude.{◌≡◌, ◌++◌, ◌≤◌, length};
+ghost use Rattle.std.specs.Prelude.{◌≡◌};
+ghost use Rattle.source.specs.Telling.{with_told};
 ghost use Rattle.pdu.specs.Whole.{head, body_told, told_of};
 
 use crate::lists::tell_list_ack;
@@ -14,8 +15,7 @@ use pdu::Pdu;
 use source::{ToldList, tell};
 
 fn tell_head(told: &mut ToldList, pdu_type: &PduType)
-    requires { length told.old.items ≤ 2 }
-    ensures { told.new.items ≡ told.old.items ++ head.tell pdu_type.now }
+    ensures { told.new.items ≡ with_told told.old.items (head.tell pdu_type.now) }
 {
     tell(told, ElementName::SsType, &SsType::Ccbs);
     tell(told, ElementName::PduType, pdu_type);
@@ -23,8 +23,7 @@ fn tell_head(told: &mut ToldList, pdu_type: &PduType)
 
 // One match, since each PDU holds another type.
 fn tell_body(told: &mut ToldList, pdu: &Pdu)
-    requires { length told.old.items ≤ 2 }
-    ensures { told.new.items ≡ told.old.items ++ body_told pdu.now }
+    ensures { told.new.items ≡ with_told told.old.items (body_told pdu.now) }
 {
     match pdu {
         Pdu::CallInformationRetention(retention) => tell_retention(told, retention),
@@ -50,6 +49,7 @@ fn tell_body(told: &mut ToldList, pdu: &Pdu)
 }
 
 // What a PDU tells.
+#[tactic(auto, using(crate::proofs::Counts::all_told))]
 pub fn told_of(pdu: &Pdu) -> ToldList
     ensures { result.items ≡ told_of pdu.now }
 {
@@ -60,6 +60,7 @@ pub fn told_of(pdu: &Pdu) -> ToldList
 }
 
 // What a PDU tells after its type.
+#[tactic(auto, using(crate::proofs::Counts::body_all_told))]
 pub fn body_told(pdu: &Pdu) -> ToldList
     ensures { result.items ≡ body_told pdu.now }
 {

@@ -1,9 +1,9 @@
 // What the nineteen PDUs tell, element by element.
-#![tactic(auto)]
+#![tactic(auto, using(source::proofs::TellingLaws::told_more))]
 
 mod bodies;
-mod lists;
-mod parts;
-mod pdus;
+pub mod lists;
+pub mod parts;
+pub mod pdus;
 
 pub use bodies::{body_told, told_of};

@@ -1,9 +1,10 @@
 // Tells the answer to LIST.
-ghost use Rattle.std.specs.Prelude.{◌≡◌, ◌+◌, ◌*◌, ◌≤◌, ◌++◌, List, length};
+ghost use Rattle.std.specs.Prelude.{◌≡◌, List};
 ghost use Rattle.std.specs.List.{flat_map};
+ghost use Rattle.source.specs.Telling.{with_told};
 ghost use Rattle.source.specs.declared.told.Told.{Told};
 ghost use Rattle.pdu.specs.Lists.{few_tag, listed_request, list_head, listing, list_ack};
-ghost use Rattle.pdu_telling.specs.Telling.{TakesRoom, TellsFew, Tells};
+ghost use Rattle.pdu_telling.specs.Telling.{Tells};
 
 use crate::parts::tell_called;
 use bits::ElementName;
@@ -12,19 +13,15 @@ use pdu::{Few, ListAck, ListedRequest, Listing};
 use source::{ToldList, tell};
 
 fn tell_listed_request(told: &mut ToldList, request: &ListedRequest)
-    requires { length told.old.items + 3 ≤ 20 }
-    ensures { told.new.items ≡ told.old.items ++ listed_request.tell request.now }
+    ensures { told.new.items ≡ with_told told.old.items (listed_request.tell request.now) }
 {
     tell(told, ElementName::Ccbsi, &request.ccbsi);
     tell_called(told, &request.called);
 }
 
-// Each item tells three elements at most.
 fn tell_items<T, F: Fn(&mut ToldList, &T)>(told: &mut ToldList, items: &[T], tell: F)
-    requires room { length told.old.items + 3 * length items.now ≤ 20 }
-    requires takes { TakesRoom F.Fn tell }
-    requires few { TellsFew F.Fn tell }
-    ensures { (p : T → List Told) → Tells F.Fn tell p → told.new.items ≡ told.old.items ++ flat_map p items.now }
+    requires { F.IsAlwaysCallable tell }
+    ensures { (p : T → List Told) → Tells F.Fn tell p → told.new.items ≡ with_told told.old.items (flat_map p items.now) }
 {
     for item in items {
         tell(told, item);
@@ -38,16 +35,14 @@ fn few_count<T>(few: &Few<T>) -> UpToFive
 }
 
 fn tell_list_head(told: &mut ToldList, count: &UpToFive, request: &ListRequest)
-    requires { length told.old.items + 2 ≤ 20 }
-    ensures { told.new.items ≡ told.old.items ++ list_head.tell (count.now, request.now) }
+    ensures { told.new.items ≡ with_told told.old.items (list_head.tell (count.now, request.now)) }
 {
     tell(told, ElementName::ListLength, count);
     tell(told, ElementName::ListRequest, request);
 }
 
 fn tell_listing(told: &mut ToldList, listed: &Listing)
-    requires { length told.old.items ≤ 3 }
-    ensures { told.new.items ≡ told.old.items ++ listing.tell listed.now }
+    ensures { told.new.items ≡ with_told told.old.items (listing.tell listed.now) }
 {
     match listed {
         Listing::Count(counts) => {
@@ -56,20 +51,19 @@ fn tell_listing(told: &mut ToldList, listed: &Listing)
         }
         Listing::Identifiers(few) => {
             tell_list_head(told, &few_count(few), &ListRequest::Identifiers);
-            tell_items(told, few.as_slice(), |told, ccbsi| {
+            tell_items(told, few.members().as_slice(), |told, ccbsi| {
                 tell(told, ElementName::Ccbsi, ccbsi)
             });
         }
         Listing::Details(few) => {
             tell_list_head(told, &few_count(few), &ListRequest::Details);
-            tell_items(told, few.as_slice(), tell_listed_request);
+            tell_items(told, few.members().as_slice(), tell_listed_request);
         }
     }
 }
 
 pub fn tell_list_ack(told: &mut ToldList, ack: &ListAck)
-    requires { length told.old.items ≤ 2 }
-    ensures { told.new.items ≡ told.old.items ++ list_ack.tell ack.now }
+    ensures { told.new.items ≡ with_told told.old.items (list_ack.tell ack.now) }
 {
     match ack {
         Ok(listing) => {

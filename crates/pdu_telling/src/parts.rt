@@ -1,5 +1,6 @@
 // Tells the parts that PDUs share.
-ghost use Rattle.std.specs.Prelude.{◌≡◌, ◌+◌, ◌≤◌, ◌++◌, length};
+ghost use Rattle.std.specs.Prelude.{◌≡◌};
+ghost use Rattle.source.specs.Telling.{with_told};
 ghost use Rattle.pdu.specs.Parts.{identity as identity_form, called as called_form, key as key_form, outcome as outcome_form, optional_retain};
 
 use bits::ElementName;
@@ -14,8 +15,7 @@ fn tell_identity(
     extension_name: ElementName,
     identity: &Identity,
 )
-    requires { length told.old.items + 2 ≤ 20 }
-    ensures { told.new.items ≡ told.old.items ++ (identity_form ssi_name extension_name).tell identity.now }
+    ensures { told.new.items ≡ with_told told.old.items ((identity_form ssi_name extension_name).tell identity.now) }
 {
     let (ssi, extension) = identity.parts();
     tell(told, ssi_name, &ssi);
@@ -23,8 +23,7 @@ fn tell_identity(
 }
 
 pub fn tell_called(told: &mut ToldList, called: &Identity)
-    requires { length told.old.items + 2 ≤ 20 }
-    ensures { told.new.items ≡ told.old.items ++ called_form.tell called.now }
+    ensures { told.new.items ≡ with_told told.old.items (called_form.tell called.now) }
 {
     tell_identity(
         told,
@@ -35,8 +34,7 @@ pub fn tell_called(told: &mut ToldList, called: &Identity)
 }
 
 pub fn tell_key(told: &mut ToldList, key: &Key)
-    requires { length told.old.items + 5 ≤ 20 }
-    ensures { told.new.items ≡ told.old.items ++ key_form.tell key.now }
+    ensures { told.new.items ≡ with_told told.old.items (key_form.tell key.now) }
 {
     tell(told, ElementName::Ccbsi, &key.identifier);
     tell_identity(
@@ -50,8 +48,7 @@ pub fn tell_key(told: &mut ToldList, key: &Key)
 
 // The verdict under this name, and the cause of a rejection.
 pub fn tell_outcome(told: &mut ToldList, name: ElementName, outcome: &Outcome)
-    requires { length told.old.items + 2 ≤ 20 }
-    ensures { told.new.items ≡ told.old.items ++ (outcome_form name).tell outcome.now }
+    ensures { told.new.items ≡ with_told told.old.items ((outcome_form name).tell outcome.now) }
 {
     match outcome {
         Ok(()) => tell(told, name, &Verdict::Accepted),
@@ -63,8 +60,7 @@ pub fn tell_outcome(told: &mut ToldList, name: ElementName, outcome: &Outcome)
 }
 
 pub fn tell_optional_retain(told: &mut ToldList, retain: &Option<RetainCapability>)
-    requires { length told.old.items + 2 ≤ 20 }
-    ensures { told.new.items ≡ told.old.items ++ optional_retain.tell retain.now }
+    ensures { told.new.items ≡ with_told told.old.items (optional_retain.tell retain.now) }
 {
     match retain {
         None => tell_present(told, false),

@@ -1,5 +1,6 @@
 // Tells each PDU of several parts, after its type.
-ghost use Rattle.std.specs.Prelude.{◌≡◌, ◌+◌, ◌≤◌, ◌++◌, length};
+ghost use Rattle.std.specs.Prelude.{◌≡◌};
+ghost use Rattle.source.specs.Telling.{with_told};
 ghost use Rattle.pdu.specs.Pdus.{call_information_retention, monitor as monitor_form, cancel_ack, monitor_ack, cancelled as cancelled_form, failed as failed_form, cancellation as cancellation_form, request_accepted, request_rejected, request_ack_told};
 
 use crate::parts::{tell_called, tell_key, tell_optional_retain, tell_outcome};
@@ -12,8 +13,7 @@ use pdu::{
 use source::{ToldList, tell};
 
 pub fn tell_retention(told: &mut ToldList, retention: &CallInformationRetention)
-    requires { length told.old.items ≤ 2 }
-    ensures { told.new.items ≡ told.old.items ++ call_information_retention.tell retention.now }
+    ensures { told.new.items ≡ with_told told.old.items (call_information_retention.tell retention.now) }
 {
     tell(
         told,
@@ -28,8 +28,7 @@ pub fn tell_retention(told: &mut ToldList, retention: &CallInformationRetention)
 }
 
 pub fn tell_monitor(told: &mut ToldList, monitor: &Monitor)
-    requires { length told.old.items ≤ 2 }
-    ensures { told.new.items ≡ told.old.items ++ monitor_form.tell monitor.now }
+    ensures { told.new.items ≡ with_told told.old.items (monitor_form.tell monitor.now) }
 {
     tell_key(told, &monitor.key);
     tell(told, ElementName::CallPriority, &monitor.call_priority);
@@ -42,16 +41,14 @@ pub fn tell_monitor(told: &mut ToldList, monitor: &Monitor)
 }
 
 pub fn tell_cancel_ack(told: &mut ToldList, ack: &CancelAck)
-    requires { length told.old.items ≤ 2 }
-    ensures { told.new.items ≡ told.old.items ++ cancel_ack.tell ack.now }
+    ensures { told.new.items ≡ with_told told.old.items (cancel_ack.tell ack.now) }
 {
     tell(told, ElementName::Ccbsi, &ack.ccbsi);
     tell_outcome(told, ElementName::CancellationResult, &ack.outcome);
 }
 
 pub fn tell_monitor_ack(told: &mut ToldList, ack: &MonitorAck)
-    requires { length told.old.items ≤ 2 }
-    ensures { told.new.items ≡ told.old.items ++ monitor_ack.tell ack.now }
+    ensures { told.new.items ≡ with_told told.old.items (monitor_ack.tell ack.now) }
 {
     tell_key(told, &ack.key);
     tell_outcome(told, ElementName::AcceptReject, &ack.outcome);
@@ -62,8 +59,7 @@ pub fn tell_monitor_ack(told: &mut ToldList, ack: &MonitorAck)
 }
 
 pub fn tell_cancelled(told: &mut ToldList, cancelled: &Cancelled)
-    requires { length told.old.items ≤ 2 }
-    ensures { told.new.items ≡ told.old.items ++ cancelled_form.tell cancelled.now }
+    ensures { told.new.items ≡ with_told told.old.items (cancelled_form.tell cancelled.now) }
 {
     tell(told, ElementName::Ccbsi, &cancelled.ccbsi);
     tell(
@@ -74,8 +70,7 @@ pub fn tell_cancelled(told: &mut ToldList, cancelled: &Cancelled)
 }
 
 pub fn tell_failed(told: &mut ToldList, failed: &Failed)
-    requires { length told.old.items ≤ 2 }
-    ensures { told.new.items ≡ told.old.items ++ failed_form.tell failed.now }
+    ensures { told.new.items ≡ with_told told.old.items (failed_form.tell failed.now) }
 {
     tell(told, ElementName::Ccbsi, &failed.ccbsi);
     tell(told, ElementName::FailureCause, &failed.failure_cause);
@@ -87,8 +82,7 @@ pub fn tell_failed(told: &mut ToldList, failed: &Failed)
 }
 
 pub fn tell_cancellation(told: &mut ToldList, cancellation: &Cancellation)
-    requires { length told.old.items ≤ 2 }
-    ensures { told.new.items ≡ told.old.items ++ cancellation_form.tell cancellation.now }
+    ensures { told.new.items ≡ with_told told.old.items (cancellation_form.tell cancellation.now) }
 {
     tell_key(told, &cancellation.key);
     tell(
@@ -99,8 +93,7 @@ pub fn tell_cancellation(told: &mut ToldList, cancellation: &Cancellation)
 }
 
 fn tell_request_accepted(told: &mut ToldList, ack: &RequestAccepted)
-    requires { length told.old.items ≤ 2 }
-    ensures { told.new.items ≡ told.old.items ++ request_accepted.tell ack.now }
+    ensures { told.new.items ≡ with_told told.old.items (request_accepted.tell ack.now) }
 {
     tell(told, ElementName::Ccbsi, &ack.ccbsi);
     tell(told, ElementName::CallIdentifier, &ack.call_identifier);
@@ -112,8 +105,7 @@ fn tell_request_accepted(told: &mut ToldList, ack: &RequestAccepted)
 }
 
 fn tell_request_rejected(told: &mut ToldList, ack: &RequestRejected)
-    requires { length told.old.items ≤ 2 }
-    ensures { told.new.items ≡ told.old.items ++ request_rejected.tell ack.now }
+    ensures { told.new.items ≡ with_told told.old.items (request_rejected.tell ack.now) }
 {
     tell(told, ElementName::CallIdentifier, &ack.call_identifier);
     tell(told, ElementName::CallPriority, &ack.call_priority);
@@ -125,8 +117,7 @@ fn tell_request_rejected(told: &mut ToldList, ack: &RequestRejected)
 }
 
 pub fn tell_request_ack(told: &mut ToldList, ack: &RequestAck)
-    requires { length told.old.items ≤ 2 }
-    ensures { told.new.items ≡ told.old.items ++ request_ack_told ack.now }
+    ensures { told.new.items ≡ with_told told.old.items (request_ack_told ack.now) }
 {
     match ack {
         Ok(accepted) => tell_request_accepted(told, accepted),

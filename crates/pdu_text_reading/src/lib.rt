@@ -1,7 +1,8 @@
-// Reading PDUs from text.
+// Reading PDUs from text, and their parts.
 #![tactic(auto)]
 
 mod text_source;
 mod whole;
 
+pub use text_source::TextSource;
 pub use whole::read_text;

@@ -32,6 +32,14 @@ impl<'a> TextSource<'a> {
         TextSource { left: text }
     }
 
+    // The text from where the words that are left begin or blanks before them.
+    pub fn as_bytes(&self) -> &'a [u8]
+        ensures { words result.now ≡ self.now }
+    {
+        let TextSource { left } = *self;
+        left
+    }
+
     // Whether a word is left.
     pub fn any_left(&self) -> bool
         ensures { result ≡ any_left self.now }

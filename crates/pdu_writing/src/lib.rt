@@ -4,4 +4,5 @@
 mod spelling;
 mod whole;
 
+pub use spelling::spell;
 pub use whole::write_pdu;

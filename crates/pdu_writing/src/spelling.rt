@@ -18,6 +18,7 @@ fn push_told(buffer: &mut BitBuffer, told: &Told)
     }
 }
 
+// A buffer with the bits of all that is told, as far as there is room.
 pub fn spell(told: &[Told]) -> BitBuffer
     ensures { Adds [] (all_bits told.now) result }
 {

@@ -52,14 +52,18 @@ abbrev pub cause : Notice → Option EndCause
 cause (End why) = Some why
 cause _ = None
 
+-- the touched request's number, its identifier, and why a request ended, each 0 where there is none
+abbrev pub answer_number : Answer → ℕ
+answer_number a = option_map_or (λ (t : Touched). t.number) a.touched 0
+
+abbrev pub answer_identifier : Answer → ℕ
+answer_identifier a = option_map_or (λ (t : Touched). t.identifier.bits) a.touched 0
+
+abbrev pub answer_cause : Answer → ℕ
+answer_cause a = option_map_or cause_number (option_and_then cause a.notice) 0
+
 -- the number (0 or the refusal's), the notice's letter, the request number, the identifier and the end cause, 0 where
 -- there is none
 abbrev pub told : Result Answer Refusal → ℕ × ℕ × ℕ × ℕ × ℕ
-told (Ok a) = (
-  0,
-  answer_letter a,
-  option_map_or (λ (t : Touched). t.number) a.touched 0,
-  option_map_or (λ (t : Touched). t.identifier.bits) a.touched 0,
-  option_map_or cause_number (option_and_then cause a.notice) 0,
-)
+told (Ok a) = (0, answer_letter a, answer_number a, answer_identifier a, answer_cause a)
 told (Err e) = (refusal_number e, told_letter None, 0, 0, 0)

@@ -1,6 +1,6 @@
 // What a call answers.
 ghost use Rattle.std.specs.Prelude.{◌≡◌};
-ghost use Rattle.requests.specs.Notices.{done, dropped, about, letter, answer_letter, cause, cause_number};
+ghost use Rattle.requests.specs.Notices.{done, dropped, about, letter, answer_letter, answer_number, answer_identifier, answer_cause, cause, cause_number};
 
 use crate::records::Request;
 use fields::Identifier;
@@ -117,10 +117,33 @@ impl Answer {
             touched: Some(touched),
         }
     }
+
     // The letter of what the caller is told, '-' for nothing.
     pub fn letter(&self) -> char
         ensures { result ≡ answer_letter self.now }
     {
         self.notice.map_or('-', char::from)
+    }
+
+    // The number of the request that was touched, 0 where none was.
+    pub fn number(&self) -> u64
+        ensures { result ≡ answer_number self.now }
+    {
+        self.touched.map_or(0, |touched| touched.number)
+    }
+
+    // The identifier of the request that was touched, 0 where none was.
+    pub fn identifier(&self) -> u8
+        ensures { result ≡ answer_identifier self.now }
+    {
+        self.touched
+            .map_or(0, |touched| touched.identifier.bits as u8)
+    }
+
+    // The number of the cause for which a request ended, 0 where there is none.
+    pub fn cause_number(&self) -> u8
+        ensures { result ≡ answer_cause self.now }
+    {
+        self.notice.and_then(Notice::cause).map_or(0, u8::from)
     }
 }

@@ -1,9 +1,9 @@
 // The tests by which retained calls and requests are sought, and what becomes of the records.
 ghost use Rattle.std.specs.Prelude.{◌≡◌};
-ghost use Rattle.requests.specs.Records.{is_live, can_end, runs, runs_as, is_named, is_joined, is_parked_of, is_over, is_due, is_listed, at_phase, recalled_until, served_until, marked, issued, freed};
+ghost use Rattle.requests.specs.Records.{is_live, can_end, is_subscriber, runs, has_run_out, runs_as, has_key, is_named, is_living, is_joined, is_parked_of, is_over, is_due, is_listed, at_phase, recalled_until, served_until, marked, issued, freed};
 
 use crate::records::{Deadlines, Phase, Request, RetainedCall, Subscriber};
-use fields::{CallIdentifier, Identifier, Identity, Service};
+use fields::{CallIdentifier, Identifier, Identity, Key, Service};
 use record::Record;
 
 impl Phase {
@@ -24,6 +24,12 @@ impl Phase {
 
 // What changes a field of a copy is a struct update: no derive or trait says it shorter.
 impl Subscriber {
+    pub fn is_subscriber(&self, identity: Identity) -> bool
+        ensures { result ≡ is_subscriber identity self.now }
+    {
+        self.identity == identity
+    }
+
     pub fn marked(self, busy: bool) -> Subscriber
         ensures { result ≡ marked busy self }
     {
@@ -56,6 +62,13 @@ impl RetainedCall {
         ensures { result ≡ runs time self.now }
     {
         time < self.until
+    }
+
+    // Whether its place is free at this time.
+    pub fn has_run_out(&self, time: u64) -> bool
+        ensures { result ≡ has_run_out time self.now }
+    {
+        !self.runs(time)
     }
 
     // Whether it is the caller's of this call identifier, and runs at this time.
@@ -111,6 +124,20 @@ impl Request {
         self.phase.can_end() && self.is_over(time)
     }
 
+    // Whether a message with this key concerns it.
+    pub fn has_key(&self, key: Key) -> bool
+        ensures { result ≡ has_key key self.now }
+    {
+        self.key == key
+    }
+
+    // Whether it has not ended.
+    pub fn is_living(&self) -> bool
+        ensures { result ≡ is_living self.now }
+    {
+        self.phase.is_live()
+    }
+
     // Whether it is the caller's of this identifier.
     pub fn is_named(&self, caller: Identity, identifier: Identifier) -> bool
         ensures { result ≡ is_named caller identifier self.now }
@@ -125,7 +152,7 @@ impl Request {
         self.key.caller == caller
             && self.key.called == called
             && self.call.service == service
-            && self.phase.is_live()
+            && self.is_living()
     }
 
     pub fn is_parked_of(&self, caller: Identity) -> bool
@@ -140,7 +167,7 @@ impl Request {
         ensures { result ≡ is_listed caller last self.now }
     {
         self.key.caller == caller
-            && self.phase.is_live()
+            && self.is_living()
             && self.phase != Phase::Asked
             && last < self.number
     }

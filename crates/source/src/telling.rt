@@ -1,7 +1,8 @@
 // Telling an element by its name and its code.
-ghost use Rattle.std.specs.Prelude.{◌≡◌, ◌<◌, [], ◌∷◌, ◌++◌, length};
+ghost use Rattle.std.specs.Prelude.{◌≡◌, [], ◌∷◌};
 ghost use Rattle.source.specs.declared.told.Told.TheVariants.{Present};
 ghost use Rattle.source.specs.Forms.{code_of, element-tell};
+ghost use Rattle.source.specs.Telling.{with_told};
 
 use crate::told::{Code, Told, ToldList};
 use bits::ElementName;
@@ -17,17 +18,23 @@ fn code_of<E: Element>(element: ElementName, value: &E) -> Code
     }
 }
 
-// Tells an element after what was told.
-pub fn tell<E: Element>(told: &mut ToldList, element: ElementName, value: &E)
-    requires { length told.old.items < 20 }
-    ensures { told.new.items ≡ told.old.items ++ element-tell element E.Element.coding value.now }
+#[tactic(auto, using(crate::proofs::TellingLaws::told_pushed))]
+fn add(told: &mut ToldList, one: Told)
+    ensures { told.new.items ≡ with_told told.old.items (one ∷ []) }
 {
-    told.push(Told::Element(code_of(element, value)));
+    let _ = told.try_push(one);
 }
 
-pub fn tell_present(told: &mut ToldList, present: bool)
-    requires { length told.old.items < 20 }
-    ensures { told.new.items ≡ told.old.items ++ Present present ∷ [] }
+// Tells an element after what was told. What does not fit is dropped.
+pub fn tell<E: Element>(told: &mut ToldList, element: ElementName, value: &E)
+    ensures { told.new.items ≡ with_told told.old.items (element-tell element E.Element.coding value.now) }
 {
-    told.push(Told::Present(present));
+    add(told, Told::Element(code_of(element, value)));
+}
+
+// What does not fit is dropped here too.
+pub fn tell_present(told: &mut ToldList, present: bool)
+    ensures { told.new.items ≡ with_told told.old.items (Present present ∷ []) }
+{
+    add(told, Told::Present(present));
 }

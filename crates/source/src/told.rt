@@ -12,7 +12,7 @@ pub struct Code {
     pub value: u64,
     ghost fits: { value < 2 ^ width },
     ghost some: { 0 < width },
-    ghost room: { width ≤ 48 },
+    ghost room: { width ≤ 32 },
 }
 
 #[derive(Clone, Copy)]

@@ -51,11 +51,14 @@ none-count p (x ∷ xs) e =
           omega (arith, sum_by-cons (λ y. tally (p y)) x xs, here, none-count p xs at)
     ] refl e
 
-remove-sum : {X : Type 0} (f : X → ℕ) (xs : List X) (i : ℕ) → sum_by f (remove xs i) ≤ sum_by f xs
+pub remove-sum : {X : Type 0} (f : X → ℕ) (xs : List X) (i : ℕ) → sum_by f (remove xs i) ≤ sum_by f xs
 remove-sum f [] zero = omega arith
 remove-sum f [] (suc i) = omega arith
 remove-sum f (x ∷ xs) zero = omega (arith, sum_by-cons f x xs)
 remove-sum f (x ∷ xs) (suc i) = omega (arith, remove-sum f xs i, sum_by-cons f x xs, sum_by-cons f x (remove xs i))
+
+pub drop-sum : {X : Type 0} (p : X → Bool) (f : X → ℕ) (xs : List X) → sum_by f (drop_first p xs) ≤ sum_by f xs
+drop-sum p f xs = remove-sum f xs (position_or_len p xs)
 
 -- the keys of what is left, and of what a filter lets through, are among those that were
 remove-part : {X Y : Type 0} (f : X → Y) (q : Y → Bool) (xs : List X) (i : ℕ) → Sublist (filter q (map f (remove xs i))) (filter q (map f xs))
@@ -99,7 +102,7 @@ kept ms = record { queues = λ n. same_queue refl; one = λ h. h }
 pub erased : (p : Monitor → Bool) (ms : List Monitor) → Turn ms (drop_first p ms)
 erased p ms = record {
   queues = λ n. inl (remove-part (λ (m : Monitor). m.key) (λ (k : Key). eqb k.called.bits n.bits) ms (position_or_len p ms));
-  one = λ h n. omega (arith, h n, remove-sum (λ m. tally (is_engaged n m)) ms (position_or_len p ms));
+  one = λ h n. omega (arith, h n, drop-sum p (λ m. tally (is_engaged n m)) ms);
 }
 
 idle : (b : Bool) → tally (b && false) ≡ 0

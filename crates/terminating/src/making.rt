@@ -69,15 +69,16 @@ fn few_allowed(n: u64) -> bool
     (1..=256).contains(&n)
 }
 
-// The lines of the settings.
+// The lines of the settings. Their memory is had at once: `collect` would have up to twice as much.
 fn lines_set(heap: Global, settings: &[LineSetting]) -> Result<Vec<Line>, Refusal>
     ensures { MatchResult result (λ v. v.items ≡ lines_set settings.now) (λ e. e ≡ NoMemory) }
 {
-    settings
+    let mut lines = Vec::with_capacity(heap, settings.len()).map_err(|_| Refusal::NoMemory)?;
+    let free = settings
         .iter()
-        .filter_map(|setting| Line::try_from(*setting).ok())
-        .collect(heap)
-        .map_err(|_| Refusal::NoMemory)
+        .filter_map(|setting| Line::try_from(*setting).ok());
+    lines.extend(free).map_err(|_| Refusal::NoMemory)?;
+    Ok(lines)
 }
 
 impl TerminatingSettings {

@@ -1,5 +1,5 @@
 pub mod Lists
 pub mod Nibbles
 pub mod Pairs
-pub mod Steps
+pub mod Splits
 pub mod Values

@@ -1,9 +1,12 @@
 -- What the library reads of hex digits.
-use Rattle.std.proofs.Common.{◌≡◌, ℕ, ◌+◌, ◌*◌, ◌/◌, ◌%◌, List, [], ◌∷◌, length, Some, None, Ok, Err, Option, Result, refl, ap, ◌∙◌, arith, true, false, cond, ◌==◌}
+use Rattle.std.proofs.Common.{◌≡◌, ℕ, ◌+◌, ◌*◌, ◌/◌, ◌%◌, List, [], ◌∷◌, length, Some, None, Ok, Err, Option, Result, refl, sym, ap, ◌∙◌, arith, true, false, cond, ◌==◌, ◌&&◌, ◌||◌, Bool, is_some, nat_le, ◌-◌}
 use Rattle.std.specs.Prelude.{if◌then◌else◌, MatchResult}
 use Rattle.std.proofs.lemmas.Bool.{ne_eqb}
 use Rattle.std.proofs.lemmas.Bool.Decides.{nat_tests}
 use Rattle.std.specs.Bool.{⊤}
+use Rattle.std.specs.Char.{is_ascii_hexdigit}
+use Rattle.std.specs.Int.{is_in_range}
+use Rattle.std.specs.List.{list_all}
 use Rattle.std.specs.Result.{result_ok}
 use Rattle.hex.specs.Hex.{decode_pairs, decode_sized, digit_or_error, hex_digit_value, ◌>>=◌}
 use Rattle.hex.specs.declared.error.FromHexError.{FromHexError}
@@ -41,6 +44,43 @@ whole : (ds : List ℕ) → IsWhole ds (hex_bytes ds)
 whole [] = refl
 whole (d ∷ []) = tt
 whole (h ∷ l ∷ ds) = link-whole h l ds (hex_byte (hex_digit_value h) (hex_digit_value l)) (hex_bytes ds) (whole ds)
+
+-- what tests whether a word is hex
+one-of-three : (x y z : ℕ) (t u v : Bool) → is_some (if t then Some x else if u then Some y else if v then Some z else None) ≡ ((v || t) || u)
+one-of-three x y z true true true = refl
+one-of-three x y z true true false = refl
+one-of-three x y z true false true = refl
+one-of-three x y z true false false = refl
+one-of-three x y z false true true = refl
+one-of-three x y z false true false = refl
+one-of-three x y z false false true = refl
+one-of-three x y z false false false = refl
+
+digit-known : (b : ℕ) → is_some (hex_digit_value b) ≡ is_ascii_hexdigit b
+digit-known b = one-of-three (b - 55) (b - 87) (b - 48) (nat_le 65 b && nat_le b 70) (is_in_range 97 102 b) (is_in_range 48 57 b)
+
+linked-known : (high low : Option ℕ) (rest : Option (List ℕ)) → is_some (linked (hex_byte high low) rest) ≡ (is_some high && (is_some low && is_some rest))
+linked-known None low rest = refl
+linked-known (Some h) None rest = refl
+linked-known (Some h) (Some l) None = refl
+linked-known (Some h) (Some l) (Some bytes) = refl
+
+pub even-known : (ds : List ℕ) → length ds % 2 ≡ 0 → list_all is_ascii_hexdigit ds ≡ is_some (hex_bytes ds)
+even-known [] even = refl
+even-known (d ∷ []) even = absurd (omega (arith, even))
+even-known (h ∷ l ∷ ds) even =
+    sym (linked-known (hex_digit_value h) (hex_digit_value l) (hex_bytes ds) ∙ rw (digit-known h, digit-known l) (ap (λ t. is_ascii_hexdigit h && (is_ascii_hexdigit l && t)) (sym (even-known ds (omega (arith, even))))))
+
+odd-whole : (ds : List ℕ) (o : Option (List ℕ)) → IsWhole ds o → ¬ (length ds % 2 ≡ 0) → is_some o ≡ false
+odd-whole ds None whole odd = refl
+odd-whole ds (Some bytes) whole odd = absurd (odd (omega (arith, whole)))
+
+pub odd-known : (ds : List ℕ) → ¬ (length ds % 2 ≡ 0) → is_some (hex_bytes ds) ≡ false
+odd-known ds odd = odd-whole ds (hex_bytes ds) (whole ds) odd
+
+pub none-known : {A : Type 0} (o : Option A) → is_some o ≡ false → None ≡ o
+none-known None is = refl
+none-known (Some a) is = cc
 
 -- a text of an odd length, and one of another length than is wanted
 by-length : (ds : List ℕ) (n : ℕ) (r : Result (List ℕ) FromHexError) (o : Option (List ℕ)) → result_ok r ≡ o → IsWhole ds o

@@ -12,11 +12,18 @@ pub fn number(word: &[u8]) -> Option<u64>
     ensures value { result ≡ number_of word.now }
     ensures small { IfSome result (λ n. n < 10 ^ 15) }
 {
-    // `parse` alone would take a leading plus.
-    if word.len() > DIGITS || !word.iter().all(|byte| byte.is_ascii_digit()) {
+    // A loop: a test of all digits and then `parse` go over the word three times.
+    if word.is_empty() || word.len() > DIGITS {
         return None;
     }
-    str::from_utf8(word).ok()?.parse().ok()
+    let mut value = 0;
+    for digit in word {
+        if *digit < b'0' || *digit > b'9' {
+            return None;
+        }
+        value = value * 10 + u64::from(*digit - b'0');
+    }
+    Some(value)
 }
 
 // Numbers, each after a space.

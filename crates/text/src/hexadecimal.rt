@@ -1,5 +1,5 @@
 // Bytes in hex, two digits to a byte.
-ghost use Rattle.std.specs.Prelude.{◌≡◌, ◌<◌, ◌++◌, IfOk, Some, vec_items, string_bytes, string_len, OnOk, OnErr, ◌+◌, ◌≤◌, [], ◌∷◌};
+ghost use Rattle.std.specs.Prelude.{◌≡◌, ◌<◌, ◌++◌, IfOk, Some, is_some, vec_items, string_bytes, string_len, OnOk, OnErr, ◌+◌, ◌≤◌, [], ◌∷◌};
 ghost use Rattle.std.specs.String.{string_capacity};
 ghost use Rattle.std.specs.Char.{digit_char};
 ghost use Rattle.std.specs.Option.{option_map};
@@ -8,10 +8,19 @@ ghost use Rattle.text.specs.Hex.{hex_bytes, hex_array, hex_of};
 use hex::FromHex;
 use std::alloc::{AllocError, Global};
 
-// The bytes that a word of hex digits writes.
+fn is_hex(word: &[u8]) -> bool
+    ensures { result ≡ is_some (hex_bytes word.now) }
+{
+    word.len() % 2 == 0 && word.iter().all(|byte| byte.is_ascii_hexdigit())
+}
+
+// The bytes that a word of hex digits writes. Memory is asked for only where the word has such digits.
 pub fn hex_bytes(heap: Global, word: &[u8]) -> Result<Option<Vec<u8>>, AllocError>
     ensures { IfOk result (λ o. option_map vec_items o ≡ hex_bytes word.now) }
 {
+    if !is_hex(word) {
+        return Ok(None);
+    }
     let mut bytes = vec![in heap; 0; word.len() / 2]?;
     match hex::decode_to_slice(word, bytes.as_mut_slice()) {
         Ok(()) => Ok(Some(bytes)),

@@ -7,4 +7,4 @@ pub mod words;
 
 pub use decimal::{Spaced, number};
 pub use hexadecimal::{hex_array, hex_bytes, push_hex};
-pub use words::Words;
+pub use words::{Words, next_word};

@@ -1,28 +1,39 @@
 // The words of a line.
-ghost use Rattle.std.specs.Prelude.{◌≡◌, ◌≤◌, ℕ, List, length, slice_get};
+ghost use Rattle.std.specs.Prelude.{◌≡◌, ◌<◌, ◌≤◌, ℕ, List, length, slice_get};
 ghost use Rattle.std.specs.Iterator.{YieldsFirstRef, item_count};
-ghost use Rattle.std.specs.List.{position_or_len};
+ghost use Rattle.std.specs.List.{prefix_len};
 ghost use Rattle.std.specs.Option.{option_copied};
 ghost use Rattle.text.specs.Numbers.{numbers_of};
-ghost use Rattle.text.specs.Words.{is_blank, words};
+ghost use Rattle.text.specs.Words.{is_blank, of_kind, words, starts_with, word_of, rest_of};
 
 use crate::decimal::number;
 use std::marker::Model;
 
-pub(crate) fn is_blank(byte: u8) -> bool
+fn is_blank(byte: u8) -> bool
     ensures { result ≡ is_blank byte }
 {
     matches!(byte, b' ' | b'\t' | b'\r')
 }
 
-// How long the word is that the line begins with.
-pub(crate) fn word_len(line: &[u8]) -> usize
-    ensures value { result ≡ position_or_len is_blank line.now }
+// How many bytes the line begins with that are blanks, or that are none.
+fn front(line: &[u8], blank: bool) -> usize
+    ensures value { result ≡ prefix_len (of_kind blank) line.now }
     ensures within { result ≤ length line.now }
 {
     line.iter()
-        .position(|byte| is_blank(*byte))
+        .position(|byte| is_blank(*byte) != blank)
         .unwrap_or(line.len())
+}
+
+// The first word and the bytes that follow it, which `Words` does not tell. The word is empty where no word is left.
+pub fn next_word(line: &[u8]) -> (&[u8], &[u8])
+    ensures first { result.0.now ≡ word_of line.now }
+    ensures rest { result.1.now ≡ rest_of line.now }
+    ensures splits { words line.now ≡ starts_with result.0.now (words result.1.now) }
+    ensures shorter { 0 < length result.0.now → length result.1.now < length line.now }
+{
+    let led = &line[front(line, true)..];
+    led.split_at(front(led, false))
 }
 
 // The words that are left of a line.
@@ -79,10 +90,12 @@ impl<'a> Iterator for Words<'a> {
     ghost remaining = { item_count (λ left. left) };
 
     fn next(&mut self) -> Option<&'a [u8]> {
-        let start = self.rest.iter().position(|byte| !is_blank(*byte))?;
-        let led = &self.rest[start..];
-        let (word, rest) = led.split_at(word_len(led));
+        // Where no word is left the blanks are gone too, so that they are not looked at again.
+        let (word, rest) = next_word(self.rest);
         self.rest = rest;
+        if word.is_empty() {
+            return None;
+        }
         Some(word)
     }
 }

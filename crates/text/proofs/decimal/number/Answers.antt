@@ -1,29 +1,40 @@
-use Rattle.std.proofs.Common.{rules, sym, ◌∙◌, arith}
-use borrow.Author.Tests.{tests}
-use Rattle.std.specs.Char.{is_ascii_digit}
-use Rattle.std.proofs.lemmas.Iterator.{YieldsList-from_slice}
-use Rattle.std.proofs.lemmas.Iterator.Search.{all_from_yields_List}
-use Rattle.text.proofs.Values.{number-of_long, number-of_other, ascii-digits, parsed}
+use Rattle.std.proofs.Common.{◌<◌, ◌⊎◌, length, get_or, sym, ◌∙◌, inl, inr, arith}
+use Rattle.std.proofs.lemmas.Bool.{eqb-false}
+use Rattle.text.proofs.Values.{a-digit, no_digit, value-step, value-end, value-below, value_room, sized}
 use Rattle.text.proofs.decimal.number.Goals as goal
-use Rattle.text.proofs.decimal.number.Goals.{then-word-gt-DIGITS-via-then-word-gt-DIGITS, then-word-gt-DIGITS-via-else-word-gt-DIGITS+then-not-all}
+use Rattle.text.proofs.decimal.number.Goals.{then-digit-lt48-via-then-digit-lt48, then-digit-lt48-via-else-digit-lt48+then-digit-gt57}
 
-pub returns-then-word-gt-DIGITS-clause-value : goal.returns-then-word-gt-DIGITS-clause-value
-returns-then-word-gt-DIGITS-clause-value c =
-    elim c.then-word-gt-DIGITS.branch [
-      | then-word-gt-DIGITS-via-then-word-gt-DIGITS w ↦ sym (number-of_long c.args.word.now (omega arith))
-      | then-word-gt-DIGITS-via-else-word-gt-DIGITS+then-not-all w ↦
-          let all = all_from_yields_List is_ascii_digit _ _ _ w.all.ensures.ran (YieldsList-from_slice c.args.word.now cc) (λ x b q k. search (rules, tests)) in
-          sym (number-of_other c.args.word.now (sym all ∙ w.if-not-all.true))
-    ]
+pub returns-then-digit-lt48 : goal.returns-then-digit-lt48
+returns-then-digit-lt48 c =
+    let some : 0 < length c.args.word.now = omega (arith, eqb-false _ _ (sym c.if-is_empty.ensures)) in
+    let d = get_or c.args.word.now c.loop-digit.digit-index 0 in
+    let out : (d < 48) ⊎ (57 < d) = elim c.then-digit-lt48.branch [
+      | then-digit-lt48-via-then-digit-lt48 w ↦ inl (omega arith)
+      | then-digit-lt48-via-else-digit-lt48+then-digit-gt57 w ↦ inr (omega arith)
+    ] in
+    record {
+      value = sym (sized c.args.word.now some (omega arith) ∙ c.loop-digit.invariant.0 ∙ value-step _ _ _ _ c.loop-digit-test.true (no_digit d out));
+      small = tt;
+    }
 
-pub returns-in_err-ok-clause-value : goal.returns-in_err-ok-clause-value
-returns-in_err-ok-clause-value c =
-    let all = all_from_yields_List is_ascii_digit _ _ _ c.all.ensures.ran (YieldsList-from_slice c.args.word.now cc) (λ x b q k. search (rules, tests)) in
-    let utf8 = ascii-digits c.args.word.now (sym all ∙ c.if-not-all.false) in
-    absurd (search rules)
+pub overflow_mul-value : goal.overflow_mul-value
+overflow_mul-value c = let room = value_room c.loop-digit.value c.loop-digit.digit-index 14 c.loop-digit.invariant.1 (omega arith) in omega arith
+
+pub overflow_add-value : goal.overflow_add-value
+overflow_add-value c = let room = value_room c.loop-digit.value c.loop-digit.digit-index 14 c.loop-digit.invariant.1 (omega arith) in omega arith
+
+pub loop-digit-preserved : goal.loop-digit-preserved
+loop-digit-preserved c =
+    let d = get_or c.args.word.now c.loop-digit.digit-index 0 in
+    let more = a-digit d (omega arith) (omega arith) in (
+      rw c.from.ensures (c.loop-digit.invariant.0 ∙ value-step _ _ _ _ c.loop-digit-test.true more),
+      value-below _ _ _ c.loop-digit.invariant.1 (omega arith),
+    )
 
 pub returns : goal.returns
 returns c =
-    let all = all_from_yields_List is_ascii_digit _ _ _ c.all.ensures.ran (YieldsList-from_slice c.args.word.now cc) (λ x b q k. search (rules, tests)) in
-    let is = parsed c.args.word.now c.parse.result c.if-word-gt-DIGITS.false (sym all ∙ c.if-not-all.false) (search rules) in
-    rw c.ok-2.ensures.value record { value = is.0; small = is.1 }
+    let some : 0 < length c.args.word.now = omega (arith, eqb-false _ _ (sym c.if-is_empty.ensures)) in
+    record {
+      value = sym (sized c.args.word.now some (omega arith) ∙ c.loop-digit.invariant.0 ∙ value-end _ _ _ c.loop-digit-test.false);
+      small = value_room _ _ 15 c.loop-digit.invariant.1 (omega arith);
+    }

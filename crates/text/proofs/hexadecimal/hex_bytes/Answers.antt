@@ -2,7 +2,7 @@ use Rattle.std.proofs.Common.{◌≡◌, ap, ◌∙◌, rules, length, ◌/◌}
 use Rattle.std.proofs.Math.Seq.{take-append_seam}
 use Rattle.std.specs.Result.{result_ok}
 use Rattle.hex.specs.Hex.{decode_sized}
-use Rattle.text.proofs.Pairs.{halved, decoded, refused}
+use Rattle.text.proofs.Pairs.{halved, decoded, refused, none-known}
 use Rattle.text.proofs.hexadecimal.hex_bytes.Goals as goal
 
 pub returns-in-Ok : goal.returns-in-Ok
@@ -18,3 +18,6 @@ returns-in-Err c =
     let word = c.args.word.now in
     let room : length c.as_mut_slice.result.now ≡ length word / 2 = search rules in
     refused _ c.in-Err.field-0 c.decode_to_slice.new.out c.in-Err.ensures.value ∙ ap (λ n. result_ok (decode_sized word n)) room ∙ halved word
+
+pub returns-then-not-is_hex : goal.returns-then-not-is_hex
+returns-then-not-is_hex c = none-known _ (search rules)

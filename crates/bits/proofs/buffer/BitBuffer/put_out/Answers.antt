@@ -1,19 +1,18 @@
-use Rattle.std.proofs.Common.{take, set, ap, ◌∙◌, refl}
-use Rattle.bits.specs.Bits.{pack}
-use Rattle.bits.proofs.BufferLaws.{put_more, flags-bits}
+use Rattle.std.proofs.Common.{◌++◌, take, drop, ap, ◌∙◌, arith}
+use Rattle.bits.proofs.BufferLaws.{refused, gone-out, held-bits}
 use Rattle.bits.proofs.buffer.BitBuffer.put_out.Goals as goal
 
-pub loop-k-init : goal.loop-k-init
-unfolding pack
-loop-k-init c = refl
+pub returns-then-out-n-clause-value : goal.returns-then-out-n-clause-value
+returns-then-out-n-clause-value c = rw (← c.self.view_is) (refused c.self.inside c.self.invariant c.args.out.now (omega arith))
 
-pub loop-k-preserved : goal.loop-k-preserved
-loop-k-preserved c =
-    ap (λ l. set l c.loop-k.k c.byte.result) c.loop-k.invariant
-    ∙ put_more c.loop-k.k c.args.self.now (take c.bytes_for-bytes.result c.args.out.now) c.byte.result c.loop-k-test.true c.byte.ensures
+pub returns-then-out-n-clause-bits : goal.returns-then-out-n-clause-bits
+returns-then-out-n-clause-bits c = rw (← c.self.view_is) (held-bits c.self.inside)
+
+pub returns-clause-value : goal.returns-clause-value
+returns-clause-value c =
+    let after = ap (λ front. front ++ drop c.bytes_for-n.result c.args.out.now) c.copy_from_slice.ensures.after
+    ∙ ap (λ k. take k c.self.inside.bytes ++ drop k c.args.out.now) c.bytes_for-n.ensures in
+    rw (← c.self.view_is) (gone-out c.self.inside c.self.invariant c.args.out.now _ (omega arith) after)
 
 pub returns-clause-bits : goal.returns-clause-bits
-returns-clause-bits c = rw (← c.self.view_is) (flags-bits c.self.inside.bits.items)
-
-pub returns-then-out-bytes-clause-bits : goal.returns-then-out-bytes-clause-bits
-returns-then-out-bytes-clause-bits c = rw (← c.self.view_is) (flags-bits c.self.inside.bits.items)
+returns-clause-bits c = rw (← c.self.view_is) (held-bits c.self.inside)

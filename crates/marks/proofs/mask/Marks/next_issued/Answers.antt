@@ -1,5 +1,4 @@
-use Rattle.std.proofs.Common.{sym, ap, ◌∙◌}
-use Rattle.std.specs.Result.{result_ok}
+use Rattle.std.proofs.Common.{sym}
 use Rattle.marks.proofs.Table.{none_is, some_is}
 use Rattle.marks.proofs.mask.Marks.next_issued.Goals as goal
 
@@ -7,5 +6,4 @@ pub returns-then-are_all_held : goal.returns-then-are_all_held
 returns-then-are_all_held c = none_is c.args.self c.args.last (sym c.if-are_all_held.ensures)
 
 pub returns : goal.returns
-returns c =
-    c.ok.ensures.value ∙ (ap result_ok c.try_from.ensures ∙ some_is c.args.self c.args.last _ (sym c.if-are_all_held.ensures) (cc))
+returns c = some_is c.args.self c.args.last _ (sym c.if-are_all_held.ensures) (cc)

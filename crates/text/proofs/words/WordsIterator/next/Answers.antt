@@ -1,17 +1,14 @@
-use Rattle.std.proofs.Common.{◌≡◌, ◌∷◌, length, sym, ap, ◌∙◌, rules, arith}
-use Rattle.std.proofs.lemmas.List.{take_rest}
+use Rattle.std.proofs.Common.{◌≡◌, ◌∷◌, [], length, sym, ◌∙◌, ap, rules, arith}
 use Rattle.text.specs.Words.{words}
-use Rattle.text.proofs.Steps.{no_word, first_word}
+use Rattle.text.proofs.Splits.{no-word, no-rest, a-word}
 use Rattle.text.proofs.words.WordsIterator.next.Goals as goal
 
-pub returns-in_err-start-clause-steps : goal.returns-in_err-start-clause-steps
-returns-in_err-start-clause-steps c =
-    let none = sym c.self.view_is ∙ no_word c.self.inside.rest.now (search rules) in
-    rw c.from_residual.ensures (none, none)
+pub returns-then-is_empty-clause-steps : goal.returns-then-is_empty-clause-steps
+returns-then-is_empty-clause-steps c =
+    let none : c.args.self.now ≡ [] = sym c.self.view_is ∙ c.next_word.ensures.splits ∙ no-word _ _ (search rules) in
+    (none, rw c.next_word.ensures.rest (no-rest c.self.inside.rest.now (search rules)))
 
 pub returns : goal.returns
 returns c =
-    let found = first_word c.self.inside.rest.now c.in_ok-start.start (search rules) (search rules) (search rules) in
-    let splits : c.args.self.now ≡ c.split_at.result.0.now ∷ words c.split_at.result.1.now =
-    rw (c.split_at.ensures.front, c.split_at.ensures.back, c.word_len.ensures.value, take_rest) (sym c.self.view_is ∙ found) in
+    let splits : c.args.self.now ≡ c.next_word.result.0.now ∷ words c.next_word.result.1.now = sym c.self.view_is ∙ c.next_word.ensures.splits ∙ a-word _ _ (search rules) in
     record { steps = splits; goes = record { on = λ _. (tt, tt, omega (arith, ap length splits)); keeps = tt; rests = λ _. tt } }
