@@ -12,7 +12,7 @@ use element::{ListRequest, UpToFive, Verdict};
 use pdu::{Few, ListAck, ListedRequest, Listing};
 use source::{ToldList, tell};
 
-fn tell_listed_request(told: &mut ToldList, request: &ListedRequest)
+pub fn tell_listed_request(told: &mut ToldList, request: &ListedRequest)
     ensures { told.new.items ≡ with_told told.old.items (listed_request.tell request.now) }
 {
     tell(told, ElementName::Ccbsi, &request.ccbsi);
