@@ -1,6 +1,5 @@
 // Tells a PDU by its type.
 ghost use Rattle.std.specs.Prelude.{◌≡◌};
-ghost use Rattle.source.specs.Telling.{with_told};
 ghost use Rattle.pdu.specs.Whole.{head, body_told, told_of};
 
 use crate::lists::tell_list_ack;
@@ -12,18 +11,18 @@ use crate::pdus::{
 use bits::ElementName;
 use element::{PduType, SsType};
 use pdu::Pdu;
-use source::{ToldList, tell};
+use source::{Listener, ToldList, tell};
 
-fn tell_head(told: &mut ToldList, pdu_type: &PduType)
-    ensures { told.new.items ≡ with_told told.old.items (head.tell pdu_type.now) }
+fn tell_head<L: Listener>(told: &mut L, pdu_type: &PduType)
+    ensures { told.new ≡ L.after told.old (head.tell pdu_type.now) }
 {
     tell(told, ElementName::SsType, &SsType::Ccbs);
     tell(told, ElementName::PduType, pdu_type);
 }
 
 // One match, since each PDU holds another type.
-fn tell_body(told: &mut ToldList, pdu: &Pdu)
-    ensures { told.new.items ≡ with_told told.old.items (body_told pdu.now) }
+fn tell_body<L: Listener>(told: &mut L, pdu: &Pdu)
+    ensures { told.new ≡ L.after told.old (body_told pdu.now) }
 {
     match pdu {
         Pdu::CallInformationRetention(retention) => tell_retention(told, retention),
@@ -46,6 +45,14 @@ fn tell_body(told: &mut ToldList, pdu: &Pdu)
         Pdu::Ccbsi(ccbsi) => tell(told, ElementName::Ccbsi, ccbsi),
         Pdu::CallInformationRelease(call) => tell(told, ElementName::CallIdentifier, call),
     }
+}
+
+// Tells a PDU, its type first.
+pub fn tell_pdu<L: Listener>(told: &mut L, pdu: &Pdu)
+    ensures { told.new ≡ L.after told.old (told_of pdu.now) }
+{
+    tell_head(told, &pdu.pdu_type());
+    tell_body(told, pdu);
 }
 
 // What a PDU tells.

@@ -1,9 +1,9 @@
 // What the nineteen PDUs tell, element by element.
-#![tactic(auto, using(source::proofs::TellingLaws::told_more))]
+#![tactic(auto)]
 
 mod bodies;
 pub mod lists;
 pub mod parts;
 pub mod pdus;
 
-pub use bodies::{body_told, told_of};
+pub use bodies::{body_told, tell_pdu, told_of};

@@ -1,7 +1,6 @@
 // Tells the answer to LIST.
-ghost use Rattle.std.specs.Prelude.{◌≡◌, List};
+ghost use Rattle.std.specs.Prelude.{◌≡◌, [], List};
 ghost use Rattle.std.specs.List.{flat_map};
-ghost use Rattle.source.specs.Telling.{with_told};
 ghost use Rattle.source.specs.declared.told.Told.{Told};
 ghost use Rattle.pdu.specs.Lists.{few_tag, listed_request, list_head, listing, list_ack};
 ghost use Rattle.pdu_telling.specs.Telling.{Tells};
@@ -10,18 +9,19 @@ use crate::parts::tell_called;
 use bits::ElementName;
 use element::{ListRequest, UpToFive, Verdict};
 use pdu::{Few, ListAck, ListedRequest, Listing};
-use source::{ToldList, tell};
+use source::{Listener, tell};
 
-pub fn tell_listed_request(told: &mut ToldList, request: &ListedRequest)
-    ensures { told.new.items ≡ with_told told.old.items (listed_request.tell request.now) }
+pub fn tell_listed_request<L: Listener>(told: &mut L, request: &ListedRequest)
+    ensures { told.new ≡ L.after told.old (listed_request.tell request.now) }
 {
     tell(told, ElementName::Ccbsi, &request.ccbsi);
     tell_called(told, &request.called);
 }
 
-fn tell_items<T, F: Fn(&mut ToldList, &T)>(told: &mut ToldList, items: &[T], tell: F)
-    requires { F.IsAlwaysCallable tell }
-    ensures { (p : T → List Told) → Tells F.Fn tell p → told.new.items ≡ with_told told.old.items (flat_map p items.now) }
+fn tell_items<L: Listener, T, F: Fn(&mut L, &T)>(told: &mut L, items: &[T], tell: F)
+    requires callable { F.IsAlwaysCallable tell }
+    requires stands { L.after told.old [] ≡ told.old }
+    ensures { (p : T → List Told) → Tells F.Fn tell L.after p → told.new ≡ L.after told.old (flat_map p items.now) }
 {
     for item in items {
         tell(told, item);
@@ -34,15 +34,15 @@ fn few_count<T>(few: &Few<T>) -> UpToFive
     few.count()
 }
 
-fn tell_list_head(told: &mut ToldList, count: &UpToFive, request: &ListRequest)
-    ensures { told.new.items ≡ with_told told.old.items (list_head.tell (count.now, request.now)) }
+fn tell_list_head<L: Listener>(told: &mut L, count: &UpToFive, request: &ListRequest)
+    ensures { told.new ≡ L.after told.old (list_head.tell (count.now, request.now)) }
 {
     tell(told, ElementName::ListLength, count);
     tell(told, ElementName::ListRequest, request);
 }
 
-fn tell_listing(told: &mut ToldList, listed: &Listing)
-    ensures { told.new.items ≡ with_told told.old.items (listing.tell listed.now) }
+fn tell_listing<L: Listener>(told: &mut L, listed: &Listing)
+    ensures { told.new ≡ L.after told.old (listing.tell listed.now) }
 {
     match listed {
         Listing::Count(counts) => {
@@ -57,13 +57,15 @@ fn tell_listing(told: &mut ToldList, listed: &Listing)
         }
         Listing::Details(few) => {
             tell_list_head(told, &few_count(few), &ListRequest::Details);
-            tell_items(told, few.members().as_slice(), tell_listed_request);
+            tell_items(told, few.members().as_slice(), |told, request| {
+                tell_listed_request(told, request)
+            });
         }
     }
 }
 
-pub fn tell_list_ack(told: &mut ToldList, ack: &ListAck)
-    ensures { told.new.items ≡ with_told told.old.items (list_ack.tell ack.now) }
+pub fn tell_list_ack<L: Listener>(told: &mut L, ack: &ListAck)
+    ensures { told.new ≡ L.after told.old (list_ack.tell ack.now) }
 {
     match ack {
         Ok(listing) => {

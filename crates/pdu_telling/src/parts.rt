@@ -1,29 +1,28 @@
 // Tells the parts that PDUs share.
 ghost use Rattle.std.specs.Prelude.{◌≡◌};
-ghost use Rattle.source.specs.Telling.{with_told};
 ghost use Rattle.pdu.specs.Parts.{identity as identity_form, called as called_form, key as key_form, outcome as outcome_form, optional_retain};
 
 use bits::ElementName;
 use element::{RetainCapability, Verdict};
 use fields::{Identity, Key};
 use pdu::Outcome;
-use source::{ToldList, tell, tell_present};
+use source::{Listener, tell, tell_present};
 
-fn tell_identity(
-    told: &mut ToldList,
+fn tell_identity<L: Listener>(
+    told: &mut L,
     ssi_name: ElementName,
     extension_name: ElementName,
     identity: &Identity,
 )
-    ensures { told.new.items ≡ with_told told.old.items ((identity_form ssi_name extension_name).tell identity.now) }
+    ensures { told.new ≡ L.after told.old ((identity_form ssi_name extension_name).tell identity.now) }
 {
     let (ssi, extension) = identity.parts();
     tell(told, ssi_name, &ssi);
     tell(told, extension_name, &extension);
 }
 
-pub fn tell_called(told: &mut ToldList, called: &Identity)
-    ensures { told.new.items ≡ with_told told.old.items (called_form.tell called.now) }
+pub fn tell_called<L: Listener>(told: &mut L, called: &Identity)
+    ensures { told.new ≡ L.after told.old (called_form.tell called.now) }
 {
     tell_identity(
         told,
@@ -33,8 +32,8 @@ pub fn tell_called(told: &mut ToldList, called: &Identity)
     );
 }
 
-pub fn tell_key(told: &mut ToldList, key: &Key)
-    ensures { told.new.items ≡ with_told told.old.items (key_form.tell key.now) }
+pub fn tell_key<L: Listener>(told: &mut L, key: &Key)
+    ensures { told.new ≡ L.after told.old (key_form.tell key.now) }
 {
     tell(told, ElementName::Ccbsi, &key.identifier);
     tell_identity(
@@ -47,8 +46,8 @@ pub fn tell_key(told: &mut ToldList, key: &Key)
 }
 
 // The verdict under this name, and the cause of a rejection.
-pub fn tell_outcome(told: &mut ToldList, name: ElementName, outcome: &Outcome)
-    ensures { told.new.items ≡ with_told told.old.items ((outcome_form name).tell outcome.now) }
+pub fn tell_outcome<L: Listener>(told: &mut L, name: ElementName, outcome: &Outcome)
+    ensures { told.new ≡ L.after told.old ((outcome_form name).tell outcome.now) }
 {
     match outcome {
         Ok(()) => tell(told, name, &Verdict::Accepted),
@@ -59,8 +58,8 @@ pub fn tell_outcome(told: &mut ToldList, name: ElementName, outcome: &Outcome)
     }
 }
 
-pub fn tell_optional_retain(told: &mut ToldList, retain: &Option<RetainCapability>)
-    ensures { told.new.items ≡ with_told told.old.items (optional_retain.tell retain.now) }
+pub fn tell_optional_retain<L: Listener>(told: &mut L, retain: &Option<RetainCapability>)
+    ensures { told.new ≡ L.after told.old (optional_retain.tell retain.now) }
 {
     match retain {
         None => tell_present(told, false),

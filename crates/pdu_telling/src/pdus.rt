@@ -1,6 +1,5 @@
 // Tells each PDU of several parts, after its type.
 ghost use Rattle.std.specs.Prelude.{◌≡◌};
-ghost use Rattle.source.specs.Telling.{with_told};
 ghost use Rattle.pdu.specs.Pdus.{call_information_retention, monitor as monitor_form, cancel_ack, monitor_ack, cancelled as cancelled_form, failed as failed_form, cancellation as cancellation_form, request_accepted, request_rejected, request_ack_told};
 
 use crate::parts::{tell_called, tell_key, tell_optional_retain, tell_outcome};
@@ -10,10 +9,10 @@ use pdu::{
     CallInformationRetention, CancelAck, Cancellation, Cancelled, Failed, Monitor, MonitorAck,
     RequestAccepted, RequestAck, RequestRejected,
 };
-use source::{ToldList, tell};
+use source::{Listener, tell};
 
-pub fn tell_retention(told: &mut ToldList, retention: &CallInformationRetention)
-    ensures { told.new.items ≡ with_told told.old.items (call_information_retention.tell retention.now) }
+pub fn tell_retention<L: Listener>(told: &mut L, retention: &CallInformationRetention)
+    ensures { told.new ≡ L.after told.old (call_information_retention.tell retention.now) }
 {
     tell(
         told,
@@ -27,8 +26,8 @@ pub fn tell_retention(told: &mut ToldList, retention: &CallInformationRetention)
     tell_called(told, &retention.called);
 }
 
-pub fn tell_monitor(told: &mut ToldList, monitor: &Monitor)
-    ensures { told.new.items ≡ with_told told.old.items (monitor_form.tell monitor.now) }
+pub fn tell_monitor<L: Listener>(told: &mut L, monitor: &Monitor)
+    ensures { told.new ≡ L.after told.old (monitor_form.tell monitor.now) }
 {
     tell_key(told, &monitor.key);
     tell(told, ElementName::CallPriority, &monitor.call_priority);
@@ -40,15 +39,15 @@ pub fn tell_monitor(told: &mut ToldList, monitor: &Monitor)
     );
 }
 
-pub fn tell_cancel_ack(told: &mut ToldList, ack: &CancelAck)
-    ensures { told.new.items ≡ with_told told.old.items (cancel_ack.tell ack.now) }
+pub fn tell_cancel_ack<L: Listener>(told: &mut L, ack: &CancelAck)
+    ensures { told.new ≡ L.after told.old (cancel_ack.tell ack.now) }
 {
     tell(told, ElementName::Ccbsi, &ack.ccbsi);
     tell_outcome(told, ElementName::CancellationResult, &ack.outcome);
 }
 
-pub fn tell_monitor_ack(told: &mut ToldList, ack: &MonitorAck)
-    ensures { told.new.items ≡ with_told told.old.items (monitor_ack.tell ack.now) }
+pub fn tell_monitor_ack<L: Listener>(told: &mut L, ack: &MonitorAck)
+    ensures { told.new ≡ L.after told.old (monitor_ack.tell ack.now) }
 {
     tell_key(told, &ack.key);
     tell_outcome(told, ElementName::AcceptReject, &ack.outcome);
@@ -58,8 +57,8 @@ pub fn tell_monitor_ack(told: &mut ToldList, ack: &MonitorAck)
     tell_optional_retain(told, &ack.retain_capability);
 }
 
-pub fn tell_cancelled(told: &mut ToldList, cancelled: &Cancelled)
-    ensures { told.new.items ≡ with_told told.old.items (cancelled_form.tell cancelled.now) }
+pub fn tell_cancelled<L: Listener>(told: &mut L, cancelled: &Cancelled)
+    ensures { told.new ≡ L.after told.old (cancelled_form.tell cancelled.now) }
 {
     tell(told, ElementName::Ccbsi, &cancelled.ccbsi);
     tell(
@@ -69,8 +68,8 @@ pub fn tell_cancelled(told: &mut ToldList, cancelled: &Cancelled)
     );
 }
 
-pub fn tell_failed(told: &mut ToldList, failed: &Failed)
-    ensures { told.new.items ≡ with_told told.old.items (failed_form.tell failed.now) }
+pub fn tell_failed<L: Listener>(told: &mut L, failed: &Failed)
+    ensures { told.new ≡ L.after told.old (failed_form.tell failed.now) }
 {
     tell(told, ElementName::Ccbsi, &failed.ccbsi);
     tell(told, ElementName::FailureCause, &failed.failure_cause);
@@ -81,8 +80,8 @@ pub fn tell_failed(told: &mut ToldList, failed: &Failed)
     );
 }
 
-pub fn tell_cancellation(told: &mut ToldList, cancellation: &Cancellation)
-    ensures { told.new.items ≡ with_told told.old.items (cancellation_form.tell cancellation.now) }
+pub fn tell_cancellation<L: Listener>(told: &mut L, cancellation: &Cancellation)
+    ensures { told.new ≡ L.after told.old (cancellation_form.tell cancellation.now) }
 {
     tell_key(told, &cancellation.key);
     tell(
@@ -92,8 +91,8 @@ pub fn tell_cancellation(told: &mut ToldList, cancellation: &Cancellation)
     );
 }
 
-fn tell_request_accepted(told: &mut ToldList, ack: &RequestAccepted)
-    ensures { told.new.items ≡ with_told told.old.items (request_accepted.tell ack.now) }
+fn tell_request_accepted<L: Listener>(told: &mut L, ack: &RequestAccepted)
+    ensures { told.new ≡ L.after told.old (request_accepted.tell ack.now) }
 {
     tell(told, ElementName::Ccbsi, &ack.ccbsi);
     tell(told, ElementName::CallIdentifier, &ack.call_identifier);
@@ -104,8 +103,8 @@ fn tell_request_accepted(told: &mut ToldList, ack: &RequestAccepted)
     tell_called(told, &ack.called);
 }
 
-fn tell_request_rejected(told: &mut ToldList, ack: &RequestRejected)
-    ensures { told.new.items ≡ with_told told.old.items (request_rejected.tell ack.now) }
+fn tell_request_rejected<L: Listener>(told: &mut L, ack: &RequestRejected)
+    ensures { told.new ≡ L.after told.old (request_rejected.tell ack.now) }
 {
     tell(told, ElementName::CallIdentifier, &ack.call_identifier);
     tell(told, ElementName::CallPriority, &ack.call_priority);
@@ -116,8 +115,8 @@ fn tell_request_rejected(told: &mut ToldList, ack: &RequestRejected)
     tell_called(told, &ack.called);
 }
 
-pub fn tell_request_ack(told: &mut ToldList, ack: &RequestAck)
-    ensures { told.new.items ≡ with_told told.old.items (request_ack_told ack.now) }
+pub fn tell_request_ack<L: Listener>(told: &mut L, ack: &RequestAck)
+    ensures { told.new ≡ L.after told.old (request_ack_told ack.now) }
 {
     match ack {
         Ok(accepted) => tell_request_accepted(told, accepted),

@@ -1,31 +1,14 @@
 -- What a list holds after more is told.
-use Rattle.std.proofs.Common.{◌≡◌, ℕ, zero, suc, ◌+◌, ◌-◌, ◌<◌, ◌≤◌, List, [], ◌∷◌, ◌++◌, length, take, min, Ok, Err, Result, IsOk, OnOk, OnErr, ◌↔◌, refl, sym, ap, ◌∙◌, append_assoc, append-nil, arith, length-append, length-take}
+use Rattle.std.proofs.Common.{◌≡◌, ◌+◌, ◌-◌, ◌<◌, ◌≤◌, List, [], ◌∷◌, ◌++◌, length, take, Ok, Err, Result, IsOk, OnOk, OnErr, ◌↔◌, refl, sym, ap, ◌∙◌, append-nil, arith}
 use Rattle.std.proofs.lemmas.List.{take_all}
 use Rattle.arrayvec.specs.ArrayVec.{ArrayVec, array_vec_len}
 use Rattle.source.specs.Telling.{with_told}
+pub use Rattle.source.specs.Listening.{told_more}
 use Rattle.source.specs.declared.told.Told.{Told}
-
-take-append : {A : Type 0} (n : ℕ) (xs ys : List A) → take n (xs ++ ys) ≡ take n xs ++ take (n - length xs) ys
-take-append zero xs ys = let e : 0 ≡ 0 - length xs = omega arith in ap (λ k. take k ys) e
-take-append (suc n) [] ys = let e : suc n ≡ suc n - 0 = omega arith in ap (λ k. take k ys) e
-take-append (suc n) (x ∷ xs) ys =
-    let e : n - length xs ≡ suc n - suc (length xs) = omega arith in
-    ap (λ l. x ∷ l) (take-append n xs ys ∙ ap (λ k. take n xs ++ take k ys) e)
 
 pub told_none : (before : List Told) → with_told before [] ≡ before
 unfolding with_told
 told_none before = grind (arith, append-nil before)
-
--- one after the other
-pub told_more : (before xs ys : List Told) → with_told (with_told before xs) ys ≡ with_told before (xs ++ ys)
-unfolding with_told
-told_more before xs ys =
-    let n = 20 - length before in
-    let l : length (before ++ take n xs) ≡ length before + min n (length xs) = length-append before (take n xs) ∙ ap (λ k. length before + k) (length-take n xs) in
-    let left : 20 - length (before ++ take n xs) ≡ n - length xs = omega arith in
-    append_assoc before (take n xs) (take (20 - length (before ++ take n xs)) ys)
-    ∙ ap (λ k. before ++ (take n xs ++ take k ys)) left
-    ∙ ap (λ l. before ++ l) (sym (take-append n xs ys))
 
 -- where there is room, all of it is told
 pub told_all : (before more : List Told) → length before + length more ≤ 20 → with_told before more ≡ before ++ more

@@ -1,3 +1,4 @@
 pub mod Hearing
 pub mod Forms
 pub mod Telling
+pub mod Listening

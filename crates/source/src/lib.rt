@@ -6,5 +6,5 @@ pub mod telling;
 pub mod told;
 
 pub use source::{Source, read_element};
-pub use telling::{tell, tell_present};
+pub use telling::{Listener, tell, tell_present};
 pub use told::{Code, Told, ToldList};

@@ -1,12 +1,44 @@
 // Telling an element by its name and its code.
-ghost use Rattle.std.specs.Prelude.{◌≡◌, [], ◌∷◌};
+ghost use Rattle.std.specs.Prelude.{◌≡◌, [], ◌∷◌, ◌++◌, List};
+ghost use Rattle.source.specs.declared.told.Told.{Told as Heard};
 ghost use Rattle.source.specs.declared.told.Told.TheVariants.{Present};
 ghost use Rattle.source.specs.Forms.{code_of, element-tell};
+ghost use Rattle.source.specs.Listening.{list_after, list-more};
 ghost use Rattle.source.specs.Telling.{with_told};
 
 use crate::told::{Code, Told, ToldList};
 use bits::ElementName;
 use element::coding::Element;
+
+// What elements are told to, one after the other: a list keeps them, and their bits can be written at once.
+pub trait Listener {
+    // What stands there after more is told.
+    ghost after: { Self → List Heard → Self };
+
+    fn hear(&mut self, one: Told)
+        ensures { self.new ≡ after self.old (one ∷ []) };
+
+    // one after the other
+    ghost more: { (before : Self) (xs ys : List Heard) → after (after before xs) ys ≡ after before (xs ++ ys) };
+}
+
+// What does not fit is dropped.
+impl Listener for ToldList {
+    ghost after = { list_after };
+
+    ghost more = { list-more };
+
+    fn hear(&mut self, one: Told) {
+        add(self, one);
+    }
+}
+
+#[tactic(auto, using(crate::proofs::TellingLaws::told_pushed))]
+fn add(told: &mut ToldList, one: Told)
+    ensures { told.new.items ≡ with_told told.old.items (one ∷ []) }
+{
+    let _ = told.try_push(one);
+}
 
 fn code_of<E: Element>(element: ElementName, value: &E) -> Code
     ensures { result ≡ code_of element E.Element.coding value.now }
@@ -18,23 +50,15 @@ fn code_of<E: Element>(element: ElementName, value: &E) -> Code
     }
 }
 
-#[tactic(auto, using(crate::proofs::TellingLaws::told_pushed))]
-fn add(told: &mut ToldList, one: Told)
-    ensures { told.new.items ≡ with_told told.old.items (one ∷ []) }
+// Tells an element after what was told.
+pub fn tell<L: Listener, E: Element>(told: &mut L, element: ElementName, value: &E)
+    ensures { told.new ≡ L.after told.old (element-tell element E.Element.coding value.now) }
 {
-    let _ = told.try_push(one);
+    told.hear(Told::Element(code_of(element, value)));
 }
 
-// Tells an element after what was told. What does not fit is dropped.
-pub fn tell<E: Element>(told: &mut ToldList, element: ElementName, value: &E)
-    ensures { told.new.items ≡ with_told told.old.items (element-tell element E.Element.coding value.now) }
+pub fn tell_present<L: Listener>(told: &mut L, present: bool)
+    ensures { told.new ≡ L.after told.old (Present present ∷ []) }
 {
-    add(told, Told::Element(code_of(element, value)));
-}
-
-// What does not fit is dropped here too.
-pub fn tell_present(told: &mut ToldList, present: bool)
-    ensures { told.new.items ≡ with_told told.old.items (Present present ∷ []) }
-{
-    add(told, Told::Present(present));
+    told.hear(Told::Present(present));
 }
