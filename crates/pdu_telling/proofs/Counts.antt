@@ -6,14 +6,14 @@ use Rattle.element.specs.declared.listed.RetainCapability.{RetainCapability}
 use Rattle.fields.specs.Values.{Identifier}
 use Rattle.pdu.specs.Lists as lists
 use Rattle.pdu.specs.Parts as parts
-use Rattle.pdu.specs.Whole.{head, type_of, body_told, told_of}
+use Rattle.pdu.specs.Whole.{body_told, told_of}
 use Rattle.pdu.specs.declared.lists.Few.{Few}
 use Rattle.pdu.specs.declared.lists.ListedRequest.{ListedRequest}
 use Rattle.pdu.specs.declared.lists.Listing.{Listing}
 use Rattle.pdu.specs.declared.lists.Listing.TheVariants as listings
 use Rattle.pdu.specs.declared.pdus.Pdu.{Pdu}
 use Rattle.pdu.specs.declared.pdus.Pdu.TheVariants as variants
-use Rattle.source.proofs.TellingLaws.{told_all, told_more}
+use Rattle.source.proofs.TellingLaws.{told_all}
 use Rattle.source.specs.Telling.{with_told}
 use Rattle.source.specs.declared.told.Told.{Told}
 
@@ -77,8 +77,8 @@ pub told-count : (p : Pdu) → length (told_of p) ≤ 20
 told-count p = let n = body-count p in omega arith
 
 -- so the list takes all of it
-pub all_told : (p : Pdu) → with_told (with_told [] (head.tell (type_of p))) (body_told p) ≡ told_of p
-all_told p = let n = told-count p in told_more [] (head.tell (type_of p)) (body_told p) ∙ told_all [] (told_of p) (omega arith)
+pub all_told : (p : Pdu) → with_told [] (told_of p) ≡ told_of p
+all_told p = let n = told-count p in told_all [] (told_of p) (omega arith)
 
 pub body_all_told : (p : Pdu) → with_told [] (body_told p) ≡ body_told p
 body_all_told p = let n = body-count p in told_all [] (body_told p) (omega arith)

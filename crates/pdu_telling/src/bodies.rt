@@ -61,8 +61,7 @@ pub fn told_of(pdu: &Pdu) -> ToldList
     ensures { result.items ≡ told_of pdu.now }
 {
     let mut told = ToldList::new();
-    tell_head(&mut told, &pdu.pdu_type());
-    tell_body(&mut told, pdu);
+    tell_pdu(&mut told, pdu);
     told
 }
 

@@ -18,6 +18,7 @@ pub fn tell_listed_request<L: Listener>(told: &mut L, request: &ListedRequest)
     tell_called(told, &request.called);
 }
 
+// `stands` is no law of a listener: bits that are too many are cut off even where nothing is told.
 fn tell_items<L: Listener, T, F: Fn(&mut L, &T)>(told: &mut L, items: &[T], tell: F)
     requires callable { F.IsAlwaysCallable tell }
     requires stands { L.after told.old [] ≡ told.old }
@@ -57,9 +58,7 @@ fn tell_listing<L: Listener>(told: &mut L, listed: &Listing)
         }
         Listing::Details(few) => {
             tell_list_head(told, &few_count(few), &ListRequest::Details);
-            tell_items(told, few.members().as_slice(), |told, request| {
-                tell_listed_request(told, request)
-            });
+            tell_items(told, few.members().as_slice(), tell_listed_request);
         }
     }
 }
