@@ -1,5 +1,5 @@
 // The bits of a PDU as it is written, before they go out.
-ghost use Rattle.std.specs.Prelude.{◌≡◌, ◌≤◌, []};
+ghost use Rattle.std.specs.Prelude.{◌≡◌, ◌≤◌, [], length};
 ghost use Rattle.bits.specs.Bits.{digits, Bitlike};
 ghost use Rattle.bits.specs.Buffers.{Adds, put_out};
 
@@ -60,6 +60,7 @@ impl BitBuffer {
     pub fn put_out(&self, out: &mut [u8]) -> Result<usize, Refusal>
         ensures value { (result, out.new) ≡ put_out self.now out.old }
         ensures bits { Bitlike self.now }
+        ensures room { length self.now ≤ 272 }
     {
         let n = bytes_for(self.len);
         if out.len() < n {
