@@ -1,5 +1,6 @@
 // The answer to LIST.
-ghost use Rattle.std.specs.Prelude.{◌≡◌, ◌<◌, ◌≤◌, [], ◌∷◌, ◌++◌, length};
+ghost use Rattle.std.specs.Prelude.{◌≡◌, ◌<◌, ◌≤◌, [], ◌∷◌, ◌++◌, length, slice_get};
+ghost use Rattle.std.specs.Option.{option_copied};
 ghost use Rattle.pdu.specs.Lists.{members};
 
 use arrayvec::ArrayVec;
@@ -37,6 +38,20 @@ impl<T> Few<T> {
             Few::Five(_, _, _, _, _) => 5,
         };
         UpToFive { count }
+    }
+
+    // The member at this place. By reference, so that members need not be `Copy`.
+    pub fn get(&self, at: usize) -> Option<&T>
+        ensures { option_copied result ≡ slice_get (members self.now) at }
+    {
+        match self {
+            Few::Zero => None,
+            Few::One(a) => [a].get(at).copied(),
+            Few::Two(a, b) => [a, b].get(at).copied(),
+            Few::Three(a, b, c) => [a, b, c].get(at).copied(),
+            Few::Four(a, b, c, d) => [a, b, c, d].get(at).copied(),
+            Few::Five(a, b, c, d, e) => [a, b, c, d, e].get(at).copied(),
+        }
     }
 }
 

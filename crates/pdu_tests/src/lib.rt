@@ -3,7 +3,7 @@
 
 #[cfg(test)]
 mod tests {
-    use bits::{ElementName, Fault, Layer, Reason};
+    use bits::{BitBuffer, ElementName, Fault, Layer, Reason};
     use element::{CalledType, RejectCause, RetainCapability};
     use fields::{
         AreaSelection, CallIdentifier, Identifier, Identity, Key, Priority, Refusal, Service,
@@ -49,6 +49,22 @@ mod tests {
             return Err(Fail::new("longer than any PDU"));
         }
         assert!(rt; read_pdu(&out[..bytes], count)? == *pdu);
+        Ok(())
+    }
+
+    #[test]
+    fn buffers_of_the_same_bits_are_equal(rt: HostRuntime) -> Result<(), Fail> {
+        let mut at_once = BitBuffer::new();
+        at_once.push(3, 5);
+        let mut in_two = BitBuffer::new();
+        in_two.push(1, 1);
+        in_two.push(2, 1);
+        assert!(rt; at_once == in_two);
+        in_two.push(1, 0);
+        assert!(rt; at_once != in_two);
+        let mut out = [255u8; 2];
+        assert_eq!(rt; in_two.put_out(&mut out), Ok(4));
+        assert_eq!(rt; out, [0xa0, 255]);
         Ok(())
     }
 
@@ -120,6 +136,21 @@ mod tests {
         let pdu = Pdu::ListAck(Ok(Listing::Details(few)));
         has_bits(&rt, &pdu, 272)?;
         assert!(rt; pdu.clone()? == pdu);
+        Ok(())
+    }
+
+    // Not `Copy`, and with no default.
+    #[derive(PartialEq, Eq, Debug, Drop)]
+    struct Seat(u8);
+
+    #[test]
+    fn members_lie_in_order(rt: HostRuntime) -> Result<(), Fail> {
+        let mut few = Few::new();
+        few.push(Seat(7));
+        few.push(Seat(8));
+        assert_eq!(rt; few.get(0), Some(&Seat(7)));
+        assert_eq!(rt; few.get(1), Some(&Seat(8)));
+        assert_eq!(rt; few.get(2), None);
         Ok(())
     }
 
