@@ -17,6 +17,10 @@ mod tests {
     use std::process::Abort;
     use std::test::Fail;
 
+    // A member that no copy can be made of.
+    #[derive(PartialEq, Eq, Debug, Drop)]
+    struct NotCopy(u8);
+
     fn key() -> Result<Key, Refusal> {
         Ok(Key {
             identifier: Identifier::try_from(1)?,
@@ -139,17 +143,13 @@ mod tests {
         Ok(())
     }
 
-    // Not `Copy`, and with no default.
-    #[derive(PartialEq, Eq, Debug, Drop)]
-    struct Seat(u8);
-
     #[test]
-    fn members_lie_in_order(rt: HostRuntime) -> Result<(), Fail> {
+    fn members_by_reference(rt: HostRuntime) -> Result<(), Fail> {
         let mut few = Few::new();
-        few.push(Seat(7));
-        few.push(Seat(8));
-        assert_eq!(rt; few.get(0), Some(&Seat(7)));
-        assert_eq!(rt; few.get(1), Some(&Seat(8)));
+        few.push(NotCopy(7));
+        few.push(NotCopy(8));
+        assert_eq!(rt; few.get(0), Some(&NotCopy(7)));
+        assert_eq!(rt; few.get(1), Some(&NotCopy(8)));
         assert_eq!(rt; few.get(2), None);
         Ok(())
     }
